@@ -1,0 +1,5 @@
+pub mod Faults
+pub mod PathLaws
+pub mod Ranges
+pub mod Steps
+pub mod Vectors

@@ -1,0 +1,8 @@
+// Paths, stamps, grades and version vectors: values that cannot be out of range, and the refusals of every call.
+
+pub mod fault;
+pub mod grade;
+pub mod parts;
+pub mod path;
+pub mod stamp;
+pub mod vector;
