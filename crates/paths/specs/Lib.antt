@@ -1,4 +1,5 @@
 pub mod Faults
+pub mod Parts
 pub mod PathLaws
 pub mod Ranges
 pub mod Steps
