@@ -1,2 +1,4 @@
+pub mod Numerals
 pub mod Places
+pub mod Splits
 pub mod Values

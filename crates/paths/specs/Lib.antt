@@ -3,4 +3,5 @@ pub mod Parts
 pub mod PathLaws
 pub mod Ranges
 pub mod Steps
+pub mod Texts
 pub mod Vectors

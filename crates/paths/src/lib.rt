@@ -5,4 +5,5 @@ pub mod grade;
 pub mod parts;
 pub mod path;
 pub mod stamp;
+pub mod text;
 pub mod vector;
