@@ -1,4 +1,5 @@
 pub mod Faults
+pub mod Notation
 pub mod Parts
 pub mod PathLaws
 pub mod Ranges

@@ -2,6 +2,8 @@
 
 pub mod fault;
 pub mod grade;
+pub mod laws;
+pub mod notation;
 pub mod parts;
 pub mod path;
 pub mod stamp;
