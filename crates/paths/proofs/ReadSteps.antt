@@ -1,12 +1,12 @@
 -- Reading a path's steps gives back exactly what printing writes.
 use Prim.Native.Nat.{ℕ, zero, suc, _+_, _-_, _*_, _^_, _≤_, _<_}
-use mathlib.Core.Bool.{Bool, true, false, cond, _&&_}
+use mathlib.Core.Bool.{Bool, true, false, cond}
 use mathlib.Core.List.{List, [], _∷_, _++_}
-use mathlib.Core.Path.{_≡_, refl, sym, ap, ap₂, _∙_}
+use mathlib.Core.Path.{_≡_, refl, sym, ap, ap₂, subst, _∙_}
 use native.Mathlib.Nat.{pow-le-pow-right}
 use native.Mathlib.Numerals.{sub-one}
 use native.Mathlib.Omega.{arith}
-use lib.Dec.{eqb, ltb}
+use lib.Dec.{T}
 use lib.ListN.{length, getD}
 use Rattle.std.specs.Options.{mapped}
 use Rattle.std.specs.Written.{decimal}
@@ -14,14 +14,15 @@ use Rattle.std.specs.declared.option.Option.{Option}
 use Rattle.std.specs.declared.option.Option.the-variants.{Some, None}
 use Rattle.std.specs.shelf.Text.{allDigits}
 use Rattle.std.proofs.shelf.Decimals.{decimal-value, digits-decimal, value-decimal, decimal-some, first-decimal}
-use Rattle.std.proofs.shelf.Lists.{append-nil}
+use Rattle.std.proofs.shelf.Lists.{getD-append-left}
 use Rattle.std.proofs.shelf.Numerals.{Numerals, numerals-by-fold}
 use Rattle.std.proofs.shelf.Tests.{cond-true, cond-false}
 use Rattle.std.proofs.shelf.Ways.{tells}
 use borrow.Author.Needs.{needs}
-use Rattle.paths.proofs.Levels.{by-first, number-lt}
-use Rattle.paths.specs.Notation.{only-step, read-step, read-steps, add-step}
-use Rattle.paths.specs.Steps.{is-step, is-path, number}
+use Rattle.paths.proofs.Levels.{by-first, number-lt, of-path, round-trip}
+use Rattle.paths.specs.Notation.{only-step, read-step, read-steps, add-step, is-dot, read-path, text-of}
+use Rattle.paths.specs.declared.path.Path.{Path}
+use Rattle.paths.specs.Steps.{levels, is-step, is-path, number, is-number, steps}
 use Rattle.paths.specs.Texts.{value-after, digits-value, numeral, before-first, after-first, joined, path-text}
 
 -- a text of digits and its value, in the words of the library's lemmas
@@ -187,3 +188,77 @@ steps-fit levels w x k few weight step small =
     let deep : levels - 1 ≤ 3 = omega arith in
     let cap : 256 ^ (levels - 1) ≤ 256 ^ 3 = pow-le-pow-right {n = 256} (omega arith) deep in
     omega (arith, by-first w x 256 k 0 small step)
+
+-- a text that begins with a digit is no dot
+not-dot : (t : List ℕ) → 48 < getD t 0 0 → is-dot t ≡ false
+not-dot [] digit = refl
+not-dot (c ∷ []) digit = grind arith
+not-dot (c ∷ (d ∷ ds)) digit = refl
+
+joined-digit : (x : ℕ) (xs : List ℕ) → is-step x ≡ true → 48 < getD (joined x xs) 0 0
+joined-digit x [] h = first-decimal x (grind arith) (grind arith)
+joined-digit x (y ∷ ys) h =
+    let some : 0 < length (decimal x) = decimal-some x (grind arith) in
+    rw getD-append-left (first-decimal x (grind arith) (grind arith))
+
+dot-is : (t : List ℕ) → is-dot t ≡ true → path-text [] ≡ t
+dot-is [] h = grind arith
+dot-is (c ∷ []) h = ap (λ x. x ∷ []) (grind arith)
+dot-is (c ∷ (d ∷ ds)) h = grind arith
+
+-- what is read is a path that is written so
+pub path-written :
+    (n : ℕ) (t : List ℕ) (m : ℕ) → read-path n t ≡ Some m → (is-number n m ≡ true) × (path-text (steps n m) ≡ t)
+path-written n t m e = go (is-dot t) refl
+  where
+    written :
+        (xs : List ℕ) → is-path n xs ≡ true → number n xs ≡ m → path-text xs ≡ t
+        → (is-number n m ≡ true) × (path-text (steps n m) ≡ t)
+    written xs lawful is text =
+        subst (λ k. (is-number n k ≡ true) × (path-text (steps n k) ≡ t)) is
+        (round-trip n .number-lawful xs lawful, ap path-text (round-trip n .steps-back xs lawful) ∙ text)
+    go : (b : Bool) → is-dot t ≡ b → (is-number n m ≡ true) × (path-text (steps n m) ≡ t)
+    go true dot = written [] refl (grind arith) (dot-is t dot)
+    go false dot =
+        let w = read-written n m t (sym (cond-false (is-dot t) (Some 0) (read-steps n t) dot) ∙ e) in
+        written (w .path) (w .lawful) (w .number-is) (w .written)
+
+first-is-step : (n x : ℕ) (xs : List ℕ) → is-path n (x ∷ xs) ≡ true → is-step x ≡ true
+first-is-step zero x xs h = grind arith
+first-is-step (suc n) x xs h = grind arith
+
+-- and what is written is read
+pub path-read : (n p : ℕ) → is-number n p ≡ true → read-path n (path-text (steps n p)) ≡ Some p
+path-read n = of-path n (λ xs p. read-path n (path-text xs) ≡ Some p) go
+  where
+    go : (xs : List ℕ) → is-path n xs ≡ true → read-path n (path-text xs) ≡ Some (number n xs)
+    go [] h = refl
+    go (x ∷ xs) h =
+        cond-false (is-dot (joined x xs)) (Some 0) _
+        (not-dot (joined x xs) (joined-digit x xs (first-is-step n x xs h)))
+        ∙ written-read n x xs h
+
+of-test : (b : Bool) → T b → b ≡ true
+of-test true t = refl
+of-test false t = absurd t
+
+pub none-written : (t : List ℕ) → read-path levels t ≡ None → (p : Path) → text-of p ≡ t → ⊥
+none-written t unread p e =
+    let clash : Some (p .number) ≡ None =
+      sym (path-read levels (p .number) (of-test (is-number levels (p .number)) (p .lawful))) ∙ ap (read-path levels) e ∙ unread in
+    let z : _≡_ {A = ℕ} 0 1 = cc in omega arith
+
+-- the path that is made of what was read is the one that is written so
+pub made-written :
+    (t : List ℕ) (m : ℕ) (o : Option Path) → read-path levels t ≡ Some m
+    → mapped (λ p. p .number) o ≡ cond (is-number levels m) (Some m) None
+    → (o ≡ None → ⊥) × ((p : Path) → o ≡ Some p → text-of p ≡ t)
+made-written t m o read made =
+    let (lawful, written) = path-written levels t m read in
+    let made′ : mapped (λ p. p .number) o ≡ Some m = made ∙ cond-true (is-number levels m) (Some m) None lawful in
+    (
+      λ none. (let clash : Some m ≡ None = sym made′ ∙ ap (mapped (λ p. p .number)) none in
+      let z : _≡_ {A = ℕ} 0 1 = cc in omega arith),
+      λ p is. (let same : Some (p .number) ≡ Some m = sym (ap (mapped (λ q. q .number)) is) ∙ made′ in
+      let number : p .number ≡ m = cc in ap (λ k. path-text (steps levels k)) number ∙ written)
+    )

@@ -1,8 +1,9 @@
 -- How a path is read from text: exactly the texts that are printed are read.
 use Prim.Native.Nat.{ℕ, zero, suc, _+_, _*_, _^_}
-use mathlib.Core.Bool.{cond}
-use mathlib.Core.List.{List}
+use mathlib.Core.Bool.{Bool, false, cond}
+use mathlib.Core.List.{List, [], _∷_}
 use mathlib.Core.Path.{_≡_}
+use lib.Dec.{eqb}
 use Rattle.std.specs.Options.{mapped}
 use Rattle.std.specs.declared.option.Option.{Option}
 use Rattle.std.specs.declared.option.Option.the-variants.{Some, None}
@@ -42,3 +43,12 @@ add-step w (Some x) (Some rest) = mapped (λ m. x * w + m) rest
 abbrev pub read-steps : ℕ → List ℕ → Option ℕ
 read-steps zero t = None
 read-steps (suc n) t = add-step (256 ^ n) (read-step (before-first 47 t)) (mapped (read-steps n) (after-first 47 t))
+
+abbrev pub is-dot : List ℕ → Bool
+is-dot [] = false
+is-dot (c ∷ []) = eqb c 46
+is-dot (c ∷ (d ∷ ds)) = false
+
+-- the number of the path of n levels that a text writes
+abbrev pub read-path : ℕ → List ℕ → Option ℕ
+read-path n t = cond (is-dot t) (Some 0) (read-steps n t)

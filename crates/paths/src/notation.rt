@@ -4,7 +4,8 @@ ghost use mathlib.Core.List.{_∷_, _++_};
 ghost use mathlib.Core.Path.{_≡_};
 ghost use Rattle.std.specs.Written.{decimal};
 ghost use Rattle.std.specs.declared.option.Option.the-variants.{Some};
-ghost use Rattle.paths.specs.Notation.{text-of, Parsed, read-step, read-steps};
+ghost use Rattle.paths.specs.Steps.{levels};
+ghost use Rattle.paths.specs.Notation.{text-of, Parsed, read-step, read-steps, read-path};
 use crate::fault::Fault;
 use crate::path::Path;
 use crate::stamp::Stamp;
@@ -41,16 +42,22 @@ impl Path {
     pub fn parse(text: &[u8]) -> Result<Path, Fault>
         ensures { λ r. ⌜ Parsed (now (text .entry)) r ⌝ }
     {
-        if let [b'.'] = text {
-            return Ok(Path::root());
-        }
-        let Some(number) = steps_number(text, Path::LEVELS) else {
+        let Some(number) = path_number(text) else {
             return Err(Fault::NoPath);
         };
-        match Path::of_number(number) {
-            Some(path) => Ok(path),
-            None => Err(Fault::NoPath),
-        }
+        let Some(path) = Path::of_number(number) else {
+            return Err(Fault::NoPath);
+        };
+        Ok(path)
+    }
+}
+
+fn path_number(text: &[u8]) -> Option<u32>
+    ensures { λ r. ⌜ r ≡ read-path levels (now (text .entry)) ⌝ }
+{
+    match text {
+        [b'.'] => Some(0),
+        _ => steps_number(text, Path::LEVELS),
     }
 }
 
@@ -64,12 +71,12 @@ fn step(text: &[u8]) -> Option<u8>
     }
 }
 
-// 256 to the power of the levels below the first.
-fn weight(levels: usize) -> u32
-    requires { ⌜ 1 ≤ levels ⌝ ∗ ⌜ levels ≤ 4 ⌝ }
-    ensures { λ r. ⌜ r ≡ 256 ^ (levels - 1) ⌝ }
+// What a first step of n levels counts: 256 for each level below it.
+fn weight(n: usize) -> u32
+    requires { ⌜ 1 ≤ n ⌝ ∗ ⌜ n ≤ levels ⌝ }
+    ensures { λ r. ⌜ r ≡ 256 ^ (n - 1) ⌝ }
 {
-    match levels {
+    match n {
         1 => 1,
         2 => 0x100,
         3 => 0x1_0000,
@@ -77,18 +84,18 @@ fn weight(levels: usize) -> u32
     }
 }
 
-// The number of the steps that a text writes, at least one and at most `levels`.
-fn steps_number(text: &[u8], levels: usize) -> Option<u32>
-    requires { ⌜ levels ≤ 4 ⌝ }
-    ensures { λ r. ⌜ r ≡ read-steps levels (now (text .entry)) ⌝ }
+// The number of the steps that a text writes, at least one and at most n.
+fn steps_number(text: &[u8], n: usize) -> Option<u32>
+    requires { ⌜ n ≤ levels ⌝ }
+    ensures { λ r. ⌜ r ≡ read-steps n (now (text .entry)) ⌝ }
 {
-    if levels == 0 {
+    if n == 0 {
         return None;
     }
     let (first, rest) = split_first(text, b'/');
-    let high = step(first)? as u32 * weight(levels);
+    let high = step(first)? as u32 * weight(n);
     match rest {
         None => Some(high),
-        Some(rest) => Some(high + steps_number(rest, levels - 1)?),
+        Some(rest) => Some(high + steps_number(rest, n - 1)?),
     }
 }
