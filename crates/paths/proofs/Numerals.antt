@@ -35,8 +35,8 @@ reading-more text i n m lt low high e so-far =
     record {
       small = omega arith;
       value =
-        capped-alike (drop (i + 1) text) m (n * 10 + (getD text i 0 - 48)) (omega arith)
-        ∙ ap (λ cs. min (value-after n cs) (2 ^ 64 - 1)) (sym more) ∙ so-far .value;
+          capped-alike (drop (i + 1) text) m (n * 10 + (getD text i 0 - 48)) (omega arith)
+          ∙ ap (λ cs. min (value-after n cs) (2 ^ 64 - 1)) (sym more) ∙ so-far .value;
       digits = ap (λ b. b && allDigits (drop (i + 1) text)) (sym digit) ∙ ap allDigits (sym more) ∙ so-far .digits;
     }
 
@@ -44,7 +44,7 @@ pub reading-all : (text : List ℕ) (i n : ℕ) → length text ≤ i → Readin
 reading-all text i n end so-far =
     let none = drop-all i text end in
     let whole : n ≡ min (value-after 0 text) (2 ^ 64 - 1) =
-      omega (arith, ap (λ cs. min (value-after n cs) (2 ^ 64 - 1)) none) in
+    omega (arith, ap (λ cs. min (value-after n cs) (2 ^ 64 - 1)) none) in
     ap Some whole ∙ sym (cond-true (allDigits text) _ None (sym (so-far .digits) ∙ ap allDigits none))
 
 pub reading-stops :
@@ -52,5 +52,5 @@ pub reading-stops :
     → None ≡ digits-value text
 reading-stops text i n lt no-digit so-far =
     let stop : allDigits text ≡ false =
-      sym (so-far .digits) ∙ ap allDigits (drop-more text i 0 lt) ∙ ap (λ b. b && allDigits (drop (i + 1) text)) no-digit in
+    sym (so-far .digits) ∙ ap allDigits (drop-more text i 0 lt) ∙ ap (λ b. b && allDigits (drop (i + 1) text)) no-digit in
     sym (cond-false (allDigits text) _ None stop)

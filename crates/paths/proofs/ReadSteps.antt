@@ -123,8 +123,8 @@ writes-more n m k x t rest step more below e =
       lawful = grind arith;
       number-is = ap (λ j. x * 256 ^ n + j) (below .number-is) ∙ e;
       written =
-        joined-more x (below .path) (below .some)
-        ∙ ap₂ (λ front text. front ++ (47 ∷ text)) (first .1) (below .written) ∙ split-some 47 t rest more;
+          joined-more x (below .path) (below .some)
+          ∙ ap₂ (λ front text. front ++ (47 ∷ text)) (first .1) (below .written) ∙ split-some 47 t rest more;
     }
 
 -- a sum that was made had both its parts
@@ -217,6 +217,7 @@ path-written n t m e = go (is-dot t) refl
     written xs lawful is text =
         subst (λ k. (is-number n k ≡ true) × (path-text (steps n k) ≡ t)) is
         (round-trip n .number-lawful xs lawful, ap path-text (round-trip n .steps-back xs lawful) ∙ text)
+
     go : (b : Bool) → is-dot t ≡ b → (is-number n m ≡ true) × (path-text (steps n m) ≡ t)
     go true dot = written [] refl (grind arith) (dot-is t dot)
     go false dot =
@@ -245,7 +246,7 @@ of-test false t = absurd t
 pub none-written : (t : List ℕ) → read-path levels t ≡ None → (p : Path) → text-of p ≡ t → ⊥
 none-written t unread p e =
     let clash : Some (p .number) ≡ None =
-      sym (path-read levels (p .number) (of-test (is-number levels (p .number)) (p .lawful))) ∙ ap (read-path levels) e ∙ unread in
+    sym (path-read levels (p .number) (of-test (is-number levels (p .number)) (p .lawful))) ∙ ap (read-path levels) e ∙ unread in
     let z : _≡_ {A = ℕ} 0 1 = cc in omega arith
 
 -- the path that is made of what was read is the one that is written so
@@ -255,10 +256,9 @@ pub made-written :
     → (o ≡ None → ⊥) × ((p : Path) → o ≡ Some p → text-of p ≡ t)
 made-written t m o read made =
     let (lawful, written) = path-written levels t m read in
-    let made′ : mapped (λ p. p .number) o ≡ Some m = made ∙ cond-true (is-number levels m) (Some m) None lawful in
-    (
+    let made′ : mapped (λ p. p .number) o ≡ Some m = made ∙ cond-true (is-number levels m) (Some m) None lawful in (
       λ none. (let clash : Some m ≡ None = sym made′ ∙ ap (mapped (λ p. p .number)) none in
-      let z : _≡_ {A = ℕ} 0 1 = cc in omega arith),
+          let z : _≡_ {A = ℕ} 0 1 = cc in omega arith),
       λ p is. (let same : Some (p .number) ≡ Some m = sym (ap (mapped (λ q. q .number)) is) ∙ made′ in
-      let number : p .number ≡ m = cc in ap (λ k. path-text (steps levels k)) number ∙ written)
+          let number : p .number ≡ m = cc in ap (λ k. path-text (steps levels k)) number ∙ written),
     )

@@ -21,10 +21,10 @@ module _ (mark : ℕ) (text : List ℕ) (i : ℕ) where
       let more = drop-more text i 0 lt in
       record {
         before =
-          so-far .before ∙ ap (λ t. take i text ++ before-first mark t) more
-          ∙ ap (λ t. take i text ++ t) (cond-false (eqb (getD text i 0) mark) [] _ other)
-          ∙ sym (append-assoc (take i text) (getD text i 0 ∷ []) (before-first mark (drop (i + 1) text)))
-          ∙ ap (λ t. t ++ before-first mark (drop (i + 1) text)) (sym (take-more text i 0 lt));
+            so-far .before ∙ ap (λ t. take i text ++ before-first mark t) more
+            ∙ ap (λ t. take i text ++ t) (cond-false (eqb (getD text i 0) mark) [] _ other)
+            ∙ sym (append-assoc (take i text) (getD text i 0 ∷ []) (before-first mark (drop (i + 1) text)))
+            ∙ ap (λ t. t ++ before-first mark (drop (i + 1) text)) (sym (take-more text i 0 lt));
         after = so-far .after ∙ ap (after-first mark) more ∙ cond-false (eqb (getD text i 0) mark) (Some _) _ other;
       }
 
@@ -32,20 +32,18 @@ module _ (mark : ℕ) (text : List ℕ) (i : ℕ) where
       i < length text → eqb (getD text i 0) mark ≡ true → Passed mark text i
       → (take i text ≡ before-first mark text) × (Some (drop (i + 1) text) ≡ after-first mark text)
   passed-found lt here so-far =
-      let more = drop-more text i 0 lt in
-      (
+      let more = drop-more text i 0 lt in (
         sym
-        (so-far .before ∙ ap (λ t. take i text ++ before-first mark t) more
-        ∙ ap (λ t. take i text ++ t) (cond-true (eqb (getD text i 0) mark) [] _ here) ∙ append-nil (take i text)),
-        sym (so-far .after ∙ ap (after-first mark) more ∙ cond-true (eqb (getD text i 0) mark) (Some _) _ here)
+            (so-far .before ∙ ap (λ t. take i text ++ before-first mark t) more
+            ∙ ap (λ t. take i text ++ t) (cond-true (eqb (getD text i 0) mark) [] _ here) ∙ append-nil (take i text)),
+        sym (so-far .after ∙ ap (after-first mark) more ∙ cond-true (eqb (getD text i 0) mark) (Some _) _ here),
       )
 
   pub passed-all :
       length text ≤ i → Passed mark text i → (text ≡ before-first mark text) × (None ≡ after-first mark text)
   passed-all end so-far =
-      let none = drop-all i text end in
-      (
+      let none = drop-all i text end in (
         sym
-        (so-far .before ∙ ap₂ (λ s t. s ++ before-first mark t) (take-all i text end) none ∙ append-nil text),
-        sym (so-far .after ∙ ap (after-first mark) none)
+            (so-far .before ∙ ap₂ (λ s t. s ++ before-first mark t) (take-all i text end) none ∙ append-nil text),
+        sym (so-far .after ∙ ap (after-first mark) none),
       )

@@ -14,7 +14,7 @@ path-is p q e =
     λ i. record {
       number = e i;
       lawful =
-        isProp→PathP (λ j. T (is-number levels (e j))) (λ j. T-prop (is-number levels (e j))) (p .lawful) (q .lawful) i;
+          isProp→PathP (λ j. T (is-number levels (e j))) (λ j. T-prop (is-number levels (e j))) (p .lawful) (q .lawful) i;
     }
 
 pub panel-is : (p q : Panel) → p .number ≡ q .number → p ≡ q

@@ -28,7 +28,7 @@ pub record Covering (n : ℕ) : Type 0 where
   pub itself : (p : ℕ) → covers n p p ≡ true
   pub through : (p q r : ℕ) → covers n p q ≡ true → covers n q r ≡ true → covers n p r ≡ true
   pub either-way :
-    (p q : ℕ) → is-number n p ≡ true → is-number n q ≡ true → covers n p q ≡ true → covers n q p ≡ true → p ≡ q
+      (p q : ℕ) → is-number n p ≡ true → is-number n q ≡ true → covers n p q ≡ true → covers n q p ≡ true → p ≡ q
 
 -- without the last element
 abbrev pub front : List ℕ → List ℕ
@@ -42,8 +42,8 @@ pub record Parents (n : ℕ) : Type 0 where
   pub parent-covers : (p : ℕ) → is-number n p ≡ true → covers n (parent n p) p ≡ true
   -- a path is covered by itself and by what covers its parent
   pub climbs :
-    (p q : ℕ) → is-number n p ≡ true → is-number n q ≡ true
-    → covers n p q ≡ (eqb p q || (not (eqb q 0) && covers n p (parent n q)))
+      (p q : ℕ) → is-number n p ≡ true → is-number n q ≡ true
+      → covers n p q ≡ (eqb p q || (not (eqb q 0) && covers n p (parent n q)))
 
 -- what a path covers is one run in path order: from itself to the greatest number that begins with its steps
 abbrev pub Run : ℕ → Type 0

@@ -2,9 +2,9 @@
 ghost use mathlib.Core.Path.{_≡_};
 ghost use Rattle.paths.specs.Faults.{nowhere, at, refusal};
 use crate::path::Path;
-use crate::stamp::Panel;
 use crate::path::PathDebug as _;
 use crate::path::PathPartialEq;
+use crate::stamp::Panel;
 use crate::stamp::PanelDebug;
 use crate::stamp::PanelPartialEq;
 
@@ -60,7 +60,10 @@ impl Site {
     pub fn nowhere() -> Site
         ensures { λ r. ⌜ r ≡ nowhere ⌝ }
     {
-        Site { path: Path::root(), panel: None }
+        Site {
+            path: Path::root(),
+            panel: None,
+        }
     }
 
     fn refusal(self, number: u8) -> Refusal
@@ -70,7 +73,13 @@ impl Site {
             Some(panel) => panel.number(),
             None => 0,
         };
-        Refusal { number, path: self.path.number(), panel, store: None, place: None }
+        Refusal {
+            number,
+            path: self.path.number(),
+            panel,
+            store: None,
+            place: None,
+        }
     }
 }
 
@@ -92,14 +101,26 @@ impl Fault {
                     Cause::LastTime => 9,
                 };
                 let at = site.refusal(number);
-                Refusal { number, path: at.path, panel: at.panel, store: Some(fault), place: None }
+                Refusal {
+                    number,
+                    path: at.path,
+                    panel: at.panel,
+                    store: Some(fault),
+                    place: None,
+                }
             }
             Fault::NoConflict(site) => site.refusal(10),
             Fault::StaleConflict(site) => site.refusal(11),
             Fault::BadStore => Site::nowhere().refusal(12),
             Fault::BadJournal { place } => {
                 let at = Site::nowhere().refusal(13);
-                Refusal { number: at.number, path: at.path, panel: at.panel, store: None, place: Some(place) }
+                Refusal {
+                    number: at.number,
+                    path: at.path,
+                    panel: at.panel,
+                    store: None,
+                    place: Some(place),
+                }
             }
         }
     }

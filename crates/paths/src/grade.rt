@@ -42,7 +42,13 @@ impl Knob {
     pub fn new(value: i64) -> Option<Knob>
         ensures { λ r. ⌜ mapped (λ k. k .value) r ≡ cond (is-knob value) (Some value) None ⌝ }
     {
-        if -1000 <= value && value <= 1000 { Some(Knob { value: value as i16 }) } else { None }
+        if -1000 <= value && value <= 1000 {
+            Some(Knob {
+                value: value as i16,
+            })
+        } else {
+            None
+        }
     }
 
     pub fn value(self) -> i16

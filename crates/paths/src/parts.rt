@@ -100,6 +100,11 @@ impl Knobs {
         if lift.is_none() && gamma.is_none() && gain.is_none() && contrast.is_none() {
             return Err(Fault::OutOfRange(site));
         }
-        Ok(Knobs { lift, gamma, gain, contrast })
+        Ok(Knobs {
+            lift,
+            gamma,
+            gain,
+            contrast,
+        })
     }
 }

@@ -27,7 +27,9 @@ impl Path {
         ensures { λ r. ⌜ mapped (λ p. p .number) r ≡ cond (is-number levels number) (Some number) None ⌝ }
     {
         let [reel, scene, shot, node] = number.to_be_bytes();
-        let gap = (reel == 0 && scene != 0) || (scene == 0 && shot != 0) || (shot == 0 && node != 0);
+        let gap = (reel == 0 && scene != 0)
+            || (scene == 0 && shot != 0)
+            || (shot == 0 && node != 0);
         if gap { None } else { Some(Path { number }) }
     }
 

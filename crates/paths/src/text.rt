@@ -13,7 +13,9 @@ fn digits_value(text: &[u8]) -> Option<u64>
         if *digit < b'0' || *digit > b'9' {
             return None;
         }
-        number = number.saturating_mul(10).saturating_add((*digit - b'0') as u64);
+        number = number
+            .saturating_mul(10)
+            .saturating_add((*digit - b'0') as u64);
     }
     Some(number)
 }

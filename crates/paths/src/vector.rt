@@ -35,7 +35,9 @@ impl Vector {
     pub fn zero() -> Vector
         ensures { λ r. ⌜ r .places ≡ replicate 8 0 ⌝ }
     {
-        Vector { places: [0; Panel::COUNT] }
+        Vector {
+            places: [0; Panel::COUNT],
+        }
     }
 
     // Up to which time the acts of a panel have arrived.
@@ -100,7 +102,10 @@ impl Bounds {
         ensures least { λ r. ⌜ r .least ≡ vector ⌝ }
         ensures greatest { λ r. ⌜ r .greatest ≡ vector ⌝ }
     {
-        Bounds { least: vector, greatest: vector }
+        Bounds {
+            least: vector,
+            greatest: vector,
+        }
     }
 
     // The bounds of one vector more.
@@ -108,6 +113,9 @@ impl Bounds {
         ensures least { λ r. ⌜ r .least .places ≡ lesser-places (self .least .places) (vector .places) ⌝ }
         ensures greatest { λ r. ⌜ r .greatest .places ≡ greater-places (self .greatest .places) (vector .places) ⌝ }
     {
-        Bounds { least: self.least.lesser(vector), greatest: self.greatest.greater(vector) }
+        Bounds {
+            least: self.least.lesser(vector),
+            greatest: self.greatest.greater(vector),
+        }
     }
 }

@@ -18,9 +18,11 @@ mul-high t c =
     let pos = pow-pos (c .args .n - 1) in
     record {
       fits =
-        omega
-        (arith, steps-fit (c .args .n) (c .weight .result) (c .in-Continue-high .field-0) 0 (omega arith)
-        (c .weight .ensures) (omega arith) (omega arith));
+          omega (
+            arith,
+            steps-fit (c .args .n) (c .weight .result) (c .in-Continue-high .field-0) 0 (omega arith)
+                (c .weight .ensures) (omega arith) (omega arith),
+          );
     }
 
 pub returns-in-Break-steps-number : need.returns-in-Break-steps-number
@@ -35,13 +37,13 @@ returns-in-Break-steps-number t c =
 pub add-result : need.add-result
 add-result t c =
     let low =
-      read-lt (c .args .n - 1) (c .in-Continue-steps-number .field-0) (c .in-Some .rest .now)
-      (sym (c .steps-number .ensures) ∙ c .in-Continue-steps-number .was tt) in
+    read-lt (c .args .n - 1) (c .in-Continue-steps-number .field-0) (c .in-Some .rest .now)
+    (sym (c .steps-number .ensures) ∙ c .in-Continue-steps-number .was tt) in
     record {
       fits =
-        steps-fit (c .args .n) (c .weight .result) (c .in-Continue-high .field-0)
-        (c .in-Continue-steps-number .field-0) (omega arith) (c .weight .ensures) (omega arith)
-        (omega (arith, low, c .weight .ensures));
+          steps-fit (c .args .n) (c .weight .result) (c .in-Continue-high .field-0)
+          (c .in-Continue-steps-number .field-0) (omega arith) (c .weight .ensures) (omega arith)
+          (omega (arith, low, c .weight .ensures));
     }
 
 pub returns-in-None : need.returns-in-None

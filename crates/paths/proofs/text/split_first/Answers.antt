@@ -10,8 +10,8 @@ use Rattle.paths.proofs.text.split_first.Needs as need
 pub returns-then-b-mark : need.returns-then-b-mark
 returns-then-b-mark c =
     let found =
-      passed-found (c .args .mark) (c .args .text .now) (c .loop-i .i) (c .loop-i-test .taken)
-      (eq-eqb _ _ (c .if-b-mark .taken)) (c .loop-i .inv) in
+    passed-found (c .args .mark) (c .args .text .now) (c .loop-i .i) (c .loop-i-test .taken)
+    (eq-eqb _ _ (c .if-b-mark .taken)) (c .loop-i .inv) in
     record {
       before = ap (λ n. take n (c .args .text .now)) (omega arith) ∙ found .0;
       after = ap Some (take-rest (c .args .text .now) _) ∙ found .1;

@@ -1,0 +1,22 @@
+// What holds of the leaf rule for all sides. Nothing runs here: each contract is the law.
+ghost use Rattle.engine.specs.LeafLaws.{WorkedLeaves, Symmetric, NotOverKnown, OneStamp};
+
+// The rule at eight leaves, each computed.
+pub fn worked_leaves()
+    ensures { λ _. ⌜ WorkedLeaves ⌝ }
+{}
+
+// With the sides exchanged, what is taken or removed is kept, and what is in conflict stays so.
+pub fn rule_is_symmetric()
+    ensures { λ _. ⌜ Symmetric ⌝ }
+{}
+
+// A side is never overwritten by one whose stamp it already knows.
+pub fn known_stamp_never_overwrites()
+    ensures { λ _. ⌜ NotOverKnown ⌝ }
+{}
+
+// Sides of one stamp are never in conflict.
+pub fn one_stamp_is_kept()
+    ensures { λ _. ⌜ OneStamp ⌝ }
+{}
