@@ -3,21 +3,19 @@ ghost use mathlib.Core.Path.{_≡_};
 ghost use Rattle.std.specs.Options.{mapped};
 ghost use Rattle.engine.specs.LeafRule.{version, goes-on, both-sides, source-only, destination-only, outcome, kind-number};
 use paths::grade::Grade;
-use paths::grade::GradeDebug;
 use paths::stamp::Stamp;
 use paths::stamp::StampPartialEq;
 use paths::vector::Vector;
-use paths::vector::VectorDebug;
 
 // What one panel has at a leaf: its grade, if any, and the vector there.
-#[derive(Clone, Copy, Debug)]
+#[derive(Clone, Copy)]
 pub struct Side {
     pub grade: Option<Grade>,
     pub vector: Vector,
 }
 
 // Why two sides cannot be joined. A is the source and B the destination.
-#[derive(Clone, Copy, PartialEq, Eq, Debug)]
+#[derive(Clone, Copy, PartialEq, Eq)]
 pub enum Kind {
     // neither panel knows the other's grade
     Concurrent,
@@ -29,7 +27,7 @@ pub enum Kind {
     RemovedAtSource,
 }
 
-#[derive(Clone, Copy, PartialEq, Eq, Debug)]
+#[derive(Clone, Copy, PartialEq, Eq)]
 pub enum Outcome {
     // B keeps its side
     Kept,

@@ -20,10 +20,11 @@ use Rattle.std.proofs.shelf.Tests.{cond-true, cond-false}
 use Rattle.std.proofs.shelf.Ways.{tells}
 use borrow.Author.Needs.{needs}
 use Rattle.paths.proofs.Levels.{by-first, number-lt, of-path, round-trip}
-use Rattle.paths.specs.Notation.{only-step, read-step, read-steps, add-step, is-dot, read-path, text-of}
+use Rattle.paths.specs.Notation.{only-step, read-step, read-steps, add-step, is-dot, read-path, text-of, joined, path-text}
 use Rattle.paths.specs.declared.path.Path.{Path}
 use Rattle.paths.specs.Steps.{levels, is-step, is-path, number, is-number, steps}
-use Rattle.paths.specs.Texts.{value-after, digits-value, numeral, before-first, after-first, joined, path-text}
+use Rattle.text.specs.Fields.{before-first, after-first}
+use Rattle.text.specs.Numerals.{value-after, digits-value, numeral}
 
 -- a text of digits and its value, in the words of the library's lemmas
 own : Numerals (λ ds. allDigits ds ≡ true) (value-after 0)

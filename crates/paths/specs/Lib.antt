@@ -4,5 +4,4 @@ pub mod Parts
 pub mod PathLaws
 pub mod Ranges
 pub mod Steps
-pub mod Texts
 pub mod Vectors

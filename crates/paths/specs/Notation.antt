@@ -1,10 +1,12 @@
 -- How a path is read from text: exactly the texts that are printed are read.
 use Prim.Native.Nat.{ℕ, zero, suc, _+_, _*_, _^_}
 use mathlib.Core.Bool.{Bool, false, cond}
-use mathlib.Core.List.{List, [], _∷_}
+use mathlib.Core.List.{List, [], _∷_, _++_}
 use mathlib.Core.Path.{_≡_}
+use lib.Chars.{codes}
 use lib.Dec.{eqb}
 use Rattle.std.specs.Options.{mapped}
+use Rattle.std.specs.Written.{decimal}
 use Rattle.std.specs.declared.option.Option.{Option}
 use Rattle.std.specs.declared.option.Option.the-variants.{Some, None}
 use Rattle.std.specs.declared.result.Result.{Result}
@@ -13,7 +15,18 @@ use Rattle.paths.specs.declared.fault.Fault.{Fault}
 use Rattle.paths.specs.declared.fault.Fault.the-variants.{NoPath}
 use Rattle.paths.specs.declared.path.Path.{Path}
 use Rattle.paths.specs.Steps.{levels, is-step, steps}
-use Rattle.paths.specs.Texts.{numeral, before-first, after-first, path-text}
+use Rattle.text.specs.Fields.{before-first, after-first}
+use Rattle.text.specs.Numerals.{numeral}
+
+-- steps in decimal, joined by '/'
+abbrev pub joined : ℕ → List ℕ → List ℕ
+joined x [] = decimal x
+joined x (y ∷ ys) = decimal x ++ (47 ∷ joined y ys)
+
+-- the text of a path: '.' for the root
+abbrev pub path-text : List ℕ → List ℕ
+path-text [] = codes "."
+path-text (x ∷ xs) = joined x xs
 
 -- the text of the path of a number
 abbrev pub text-of : Path → List ℕ

@@ -10,8 +10,10 @@ use Rattle.std.specs.declared.result.Result.the-variants.{Ok, Err}
 use Rattle.paths.specs.declared.fault.Fault.{Fault}
 use Rattle.paths.specs.declared.grade.Grade.{Grade}
 use Rattle.paths.specs.declared.grade.Knobs.{Knobs}
+use Rattle.paths.specs.declared.grade.Setting.{Setting}
 use Rattle.paths.specs.declared.parts.GradeParts.{GradeParts}
-use Rattle.paths.specs.declared.parts.KnobParts.{KnobParts}
+use Rattle.paths.specs.declared.parts.KnobsParts.{KnobsParts}
+use Rattle.paths.specs.declared.parts.SettingParts.{SettingParts}
 use Rattle.paths.specs.declared.parts.StampParts.{StampParts}
 use Rattle.paths.specs.declared.stamp.Stamp.{Stamp}
 use Rattle.paths.specs.Ranges.{is-knob, is-panel, is-time}
@@ -27,24 +29,22 @@ stamp-parts s = record { panel = s .panel .number; time = s .time .value }
 abbrev pub lawful-stamp : StampParts → Bool
 lawful-stamp s = is-panel (s .panel) && is-time (s .time)
 
+abbrev pub knobs-parts : Knobs → KnobsParts
+knobs-parts k =
+    record { lift = k .lift .value; gamma = k .gamma .value; gain = k .gain .value; contrast = k .contrast .value }
+
+abbrev pub lawful-knobs : KnobsParts → Bool
+lawful-knobs k = is-knob (k .lift) && is-knob (k .gamma) && is-knob (k .gain) && is-knob (k .contrast)
+
 abbrev pub grade-parts : Grade → GradeParts
 grade-parts g =
-    record {
-      lift = g .lift .value;
-      gamma = g .gamma .value;
-      gain = g .gain .value;
-      contrast = g .contrast .value;
-      stamp = stamp-parts (g .stamp);
-      birth = stamp-parts (g .birth);
-    }
+    record { knobs = knobs-parts (g .knobs); stamp = stamp-parts (g .stamp); birth = stamp-parts (g .birth) }
 
 abbrev pub lawful-grade : GradeParts → Bool
-lawful-grade g =
-    is-knob (g .lift) && is-knob (g .gamma) && is-knob (g .gain) && is-knob (g .contrast)
-    && lawful-stamp (g .stamp) && lawful-stamp (g .birth)
+lawful-grade g = lawful-knobs (g .knobs) && lawful-stamp (g .stamp) && lawful-stamp (g .birth)
 
-abbrev pub knob-parts : Knobs → KnobParts
-knob-parts k =
+abbrev pub setting-parts : Setting → SettingParts
+setting-parts k =
     record {
       lift = mapped (λ x. x .value) (k .lift);
       gamma = mapped (λ x. x .value) (k .gamma);
@@ -58,7 +58,7 @@ in-range None = true
 in-range (Some x) = is-knob x
 
 -- at least one knob is set, and each that is set is in range
-abbrev pub lawful-knobs : KnobParts → Bool
-lawful-knobs k =
+abbrev pub lawful-setting : SettingParts → Bool
+lawful-setting k =
     (isSome (k .lift) || isSome (k .gamma) || isSome (k .gain) || isSome (k .contrast))
     && in-range (k .lift) && in-range (k .gamma) && in-range (k .gain) && in-range (k .contrast)

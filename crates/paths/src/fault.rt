@@ -2,33 +2,29 @@
 ghost use mathlib.Core.Path.{_≡_};
 ghost use Rattle.paths.specs.Faults.{nowhere, at, refusal};
 use crate::path::Path;
-use crate::path::PathDebug as _;
-use crate::path::PathPartialEq;
 use crate::stamp::Panel;
-use crate::stamp::PanelDebug;
-use crate::stamp::PanelPartialEq;
 
-#[derive(Clone, Copy, PartialEq, Eq, Debug)]
+#[derive(Clone, Copy)]
 pub enum Cause {
     Full,
     LastTime,
 }
 
 // A store's own refusal of a change, with the height of the store that was asked.
-#[derive(Clone, Copy, PartialEq, Eq, Debug)]
+#[derive(Clone, Copy)]
 pub struct StoreFault {
     pub cause: Cause,
     pub height: u8,
 }
 
 // The one path of a call and the panel that it acts on.
-#[derive(Clone, Copy, PartialEq, Eq, Debug)]
+#[derive(Clone, Copy)]
 pub struct Site {
     pub path: Path,
     pub panel: Option<Panel>,
 }
 
-#[derive(Clone, Copy, PartialEq, Eq, Debug)]
+#[derive(Clone, Copy)]
 pub enum Fault {
     NoPath,
     NoLeaf(Site),
@@ -46,7 +42,7 @@ pub enum Fault {
 }
 
 // A refusal in numbers: path and panel are 0 where there is none.
-#[derive(Clone, Copy, PartialEq, Eq, Debug)]
+#[derive(Clone, Copy)]
 pub struct Refusal {
     pub number: u8,
     pub path: u32,
@@ -70,12 +66,12 @@ impl Site {
         ensures { λ r. ⌜ r ≡ at number self ⌝ }
     {
         let panel = match self.panel {
-            Some(panel) => panel.number(),
+            Some(panel) => panel.number,
             None => 0,
         };
         Refusal {
             number,
-            path: self.path.number(),
+            path: self.path.number,
             panel,
             store: None,
             place: None,

@@ -7,5 +7,4 @@ pub mod notation;
 pub mod parts;
 pub mod path;
 pub mod stamp;
-pub mod text;
 pub mod vector;

@@ -9,15 +9,15 @@ ghost use Rattle.paths.specs.Notation.{text-of, Parsed, read-step, read-steps,
 use crate::fault::Fault;
 use crate::path::Path;
 use crate::stamp::Stamp;
-use crate::text::read_number;
-use crate::text::split_first;
 use std::fmt;
+use text::read_number;
+use text::split_first;
 
 pub impl fmt::Display for Path as PathDisplay {
     ghost shown = { λ p. Some (text-of p) };
 
     fn fmt<W: fmt::Write>(&self, f: &mut fmt::Formatter<W>) -> fmt::Result {
-        match self.number().to_be_bytes() {
+        match self.number.to_be_bytes() {
             [0, ..] => write!(f, "."),
             [reel, 0, ..] => write!(f, "{reel}"),
             [reel, scene, 0, _] => write!(f, "{reel}/{scene}"),
@@ -31,8 +31,8 @@ pub impl fmt::Display for Stamp as StampDisplay {
     ghost shown = { λ s. Some (decimal (s .panel .number) ++ (58 ∷ decimal (s .time .value))) };
 
     fn fmt<W: fmt::Write>(&self, f: &mut fmt::Formatter<W>) -> fmt::Result {
-        let panel = self.panel.number();
-        let time = self.time.value();
+        let panel = self.panel.number;
+        let time = self.time.value;
         write!(f, "{panel}:{time}")
     }
 }

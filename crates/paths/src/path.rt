@@ -7,9 +7,9 @@ ghost use Rattle.std.specs.Options.{mapped};
 ghost use Rattle.std.specs.declared.option.Option.the-variants.{Some, None};
 ghost use Rattle.paths.specs.Steps.{levels, is-number, covers, depth, parent as above};
 
-#[derive(Clone, Copy, PartialEq, Eq, PartialOrd, Ord, Debug)]
+#[derive(Clone, Copy, PartialEq, Eq, PartialOrd, Ord)]
 pub struct Path {
-    number: u32,
+    pub number: u32,
     ghost lawful: { T (is-number levels number) },
 }
 
@@ -31,12 +31,6 @@ impl Path {
             || (scene == 0 && shot != 0)
             || (shot == 0 && node != 0);
         if gap { None } else { Some(Path { number }) }
-    }
-
-    pub fn number(self) -> u32
-        ensures { λ r. ⌜ r ≡ self .number ⌝ }
-    {
-        self.number
     }
 
     // How many steps it has.

@@ -1,18 +1,17 @@
 // Version vectors: what a panel knows of the acts of each of the eight panels.
 ghost use Prim.Native.Nat.{max, min};
-ghost use lib.ListN.{replicate};
 ghost use mathlib.Core.Path.{_≡_};
 ghost use Rattle.paths.specs.Vectors.{place, with-place, greater as greater-places, lesser as lesser-places, at-most, known};
 use crate::stamp::Panel;
 use crate::stamp::Stamp;
 
-#[derive(Clone, Copy, Debug)]
+#[derive(Clone, Copy)]
 pub struct Vector {
-    places: [u32; Panel::COUNT],
+    pub places: [u32; Panel::COUNT],
 }
 
 // Place by place, the least and the greatest of some vectors.
-#[derive(Clone, Copy, Debug)]
+#[derive(Clone, Copy)]
 pub struct Bounds {
     pub least: Vector,
     pub greatest: Vector,
@@ -26,32 +25,18 @@ pub fn greater_place(a: u32, b: u32) -> u32
 }
 
 impl Vector {
-    pub fn new(places: [u32; Panel::COUNT]) -> Vector
-        ensures { λ r. ⌜ r .places ≡ places ⌝ }
-    {
-        Vector { places }
-    }
-
-    pub fn zero() -> Vector
-        ensures { λ r. ⌜ r .places ≡ replicate 8 0 ⌝ }
-    {
-        Vector {
-            places: [0; Panel::COUNT],
-        }
-    }
-
     // Up to which time the acts of a panel have arrived.
     pub fn place(self, panel: Panel) -> u32
         ensures { λ r. ⌜ r ≡ place (self .places) (panel .number) ⌝ }
     {
-        self.places[panel.number() as usize - 1]
+        self.places[panel.number as usize - 1]
     }
 
     pub fn with_place(self, panel: Panel, value: u32) -> Vector
         ensures { λ r. ⌜ r .places ≡ with-place (self .places) (panel .number) value ⌝ }
     {
         let mut places = self.places;
-        places[panel.number() as usize - 1] = value;
+        places[panel.number as usize - 1] = value;
         Vector { places }
     }
 
@@ -93,21 +78,11 @@ impl Vector {
     pub fn knows(self, stamp: Stamp) -> bool
         ensures { λ r. ⌜ r ≡ known (stamp .panel .number) (stamp .time .value) (self .places) ⌝ }
     {
-        stamp.time.value() <= self.place(stamp.panel)
+        stamp.time.value <= self.place(stamp.panel)
     }
 }
 
 impl Bounds {
-    pub fn of(vector: Vector) -> Bounds
-        ensures least { λ r. ⌜ r .least ≡ vector ⌝ }
-        ensures greatest { λ r. ⌜ r .greatest ≡ vector ⌝ }
-    {
-        Bounds {
-            least: vector,
-            greatest: vector,
-        }
-    }
-
     // The bounds of one vector more.
     pub fn and(self, vector: Vector) -> Bounds
         ensures least { λ r. ⌜ r .least .places ≡ lesser-places (self .least .places) (vector .places) ⌝ }

@@ -4,8 +4,8 @@ use lib.ListN.{take}
 use Rattle.std.proofs.shelf.Lists.{take-rest}
 use Rattle.std.proofs.shelf.Tests.{eq-eqb, ne-eqb}
 use Rattle.std.specs.declared.option.Option.the-variants.{Some}
-use Rattle.paths.proofs.Splits.{passed-more, passed-found, passed-all}
-use Rattle.paths.proofs.text.split_first.Needs as need
+use Rattle.text.proofs.Splits.{passed-more, passed-found, passed-all}
+use Rattle.text.proofs.split_first.Needs as need
 
 pub returns-then-b-mark : need.returns-then-b-mark
 returns-then-b-mark c =

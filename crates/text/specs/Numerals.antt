@@ -1,10 +1,8 @@
--- Numbers and paths as text, by the bytes.
+-- Numbers as decimal text, by the bytes.
 use Prim.Native.Nat.{ℕ, _+_, _-_, _*_, _^_, min}
 use mathlib.Core.Bool.{cond}
-use mathlib.Core.List.{List, [], _∷_, _++_}
-use lib.Chars.{codes}
+use mathlib.Core.List.{List, [], _∷_}
 use lib.Dec.{eqb}
-use Rattle.std.specs.Written.{decimal}
 use Rattle.std.specs.declared.option.Option.{Option}
 use Rattle.std.specs.declared.option.Option.the-variants.{Some, None}
 use Rattle.std.specs.shelf.Text.{allDigits}
@@ -23,22 +21,3 @@ abbrev pub numeral : List ℕ → Option ℕ
 numeral [] = None
 numeral (c ∷ []) = digits-value (c ∷ [])
 numeral (c ∷ (d ∷ ds)) = cond (eqb c 48) None (digits-value (c ∷ (d ∷ ds)))
-
--- what stands before and after the first byte b
-abbrev pub before-first : ℕ → List ℕ → List ℕ
-before-first b [] = []
-before-first b (x ∷ xs) = cond (eqb x b) [] (x ∷ before-first b xs)
-
-abbrev pub after-first : ℕ → List ℕ → Option (List ℕ)
-after-first b [] = None
-after-first b (x ∷ xs) = cond (eqb x b) (Some xs) (after-first b xs)
-
--- steps in decimal, joined by '/'
-abbrev pub joined : ℕ → List ℕ → List ℕ
-joined x [] = decimal x
-joined x (y ∷ ys) = decimal x ++ (47 ∷ joined y ys)
-
--- the text of a path: '.' for the root
-abbrev pub path-text : List ℕ → List ℕ
-path-text [] = codes "."
-path-text (x ∷ xs) = joined x xs

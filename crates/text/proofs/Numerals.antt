@@ -11,7 +11,7 @@ use Rattle.std.specs.shelf.Text.{allDigits}
 use Rattle.std.proofs.shelf.Lists.{drop-more, drop-all}
 use Rattle.std.proofs.shelf.Tests.{cond-true, cond-false}
 use Rattle.std.proofs.shelf.Ways.{tells}
-use Rattle.paths.specs.Texts.{value-after, digits-value}
+use Rattle.text.specs.Numerals.{value-after, digits-value}
 
 -- what is read so far, n, and then the rest is the whole, up to the cap
 pub record Reading (text : List ℕ) (i n : ℕ) : Type 0 where

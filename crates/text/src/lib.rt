@@ -2,7 +2,8 @@
 ghost use mathlib.Core.Path.{_≡_};
 ghost use lib.ListN.{take, drop};
 ghost use Rattle.std.specs.Options.{mapped};
-ghost use Rattle.paths.specs.Texts.{digits-value, numeral, before-first, after-first};
+ghost use Rattle.text.specs.Fields.{before-first, after-first};
+ghost use Rattle.text.specs.Numerals.{digits-value, numeral};
 
 // The number that decimal digits write; past 64 bits it is the greatest that fits.
 fn digits_value(text: &[u8]) -> Option<u64>

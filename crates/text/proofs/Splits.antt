@@ -8,7 +8,7 @@ use lib.ListN.{length, getD, take, drop}
 use Rattle.std.specs.declared.option.Option.the-variants.{Some, None}
 use Rattle.std.proofs.shelf.Lists.{append-nil, drop-more, drop-all, take-more, take-all}
 use Rattle.std.proofs.shelf.Tests.{cond-true, cond-false}
-use Rattle.paths.specs.Texts.{before-first, after-first}
+use Rattle.text.specs.Fields.{before-first, after-first}
 
 -- the first i bytes of the text stand before the mark
 pub record Passed (mark : ℕ) (text : List ℕ) (i : ℕ) : Type 0 where

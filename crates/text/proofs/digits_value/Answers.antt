@@ -1,7 +1,7 @@
 use native.Mathlib.Omega.{arith}
 use Rattle.std.proofs.shelf.Ways.{tells}
-use Rattle.paths.proofs.Numerals.{reading-more, reading-all, reading-stops}
-use Rattle.paths.proofs.text.digits_value.Needs as need
+use Rattle.text.proofs.Numerals.{reading-more, reading-all, reading-stops}
+use Rattle.text.proofs.digits_value.Needs as need
 
 pub returns-then-digit-lt48 : need.returns-then-digit-lt48
 returns-then-digit-lt48 c =
