@@ -17,12 +17,13 @@ pub impl fmt::Display for Path as PathDisplay {
     ghost shown = { λ p. Some (text-of p) };
 
     fn fmt<W: fmt::Write>(&self, f: &mut fmt::Formatter<W>) -> fmt::Result {
-        match self.number.to_be_bytes() {
-            [0, ..] => write!(f, "."),
-            [reel, 0, ..] => write!(f, "{reel}"),
-            [reel, scene, 0, _] => write!(f, "{reel}/{scene}"),
-            [reel, scene, shot, 0] => write!(f, "{reel}/{scene}/{shot}"),
-            [reel, scene, shot, node] => write!(f, "{reel}/{scene}/{shot}/{node}"),
+        let [reel, scene, shot, node] = self.number.to_be_bytes();
+        match self.depth() {
+            0 => write!(f, "."),
+            1 => write!(f, "{reel}"),
+            2 => write!(f, "{reel}/{scene}"),
+            3 => write!(f, "{reel}/{scene}/{shot}"),
+            _ => write!(f, "{reel}/{scene}/{shot}/{node}"),
         }
     }
 }

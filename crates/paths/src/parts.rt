@@ -51,7 +51,14 @@ impl Stamp {
         if parts.panel < 1 || parts.panel > 8 || parts.time < 1 || parts.time > 1_000_000 {
             return Err(Fault::OutOfRange(Site::nowhere()));
         }
-        Ok(Stamp { panel: Panel { number: parts.panel as u8 }, time: Time { value: parts.time as u32 } })
+        Ok(Stamp {
+            panel: Panel {
+                number: parts.panel as u8,
+            },
+            time: Time {
+                value: parts.time as u32,
+            },
+        })
     }
 }
 
@@ -60,7 +67,9 @@ impl Knob {
         ensures { λ r. ⌜ MadeOf (λ k. k .value) value (is-knob value) (OutOfRange site) r ⌝ }
     {
         if -1000 <= value && value <= 1000 {
-            Ok(Knob { value: value as i16 })
+            Ok(Knob {
+                value: value as i16,
+            })
         } else {
             Err(Fault::OutOfRange(site))
         }
@@ -84,7 +93,12 @@ impl Knobs {
         let gamma = Knob::of_part(parts.gamma, site)?;
         let gain = Knob::of_part(parts.gain, site)?;
         let contrast = Knob::of_part(parts.contrast, site)?;
-        Ok(Knobs { lift, gamma, gain, contrast })
+        Ok(Knobs {
+            lift,
+            gamma,
+            gain,
+            contrast,
+        })
     }
 }
 
@@ -95,7 +109,11 @@ impl Grade {
         let knobs = Knobs::of_parts(parts.knobs, Site::nowhere())?;
         let stamp = Stamp::of_parts(parts.stamp)?;
         let birth = Stamp::of_parts(parts.birth)?;
-        Ok(Grade { knobs, stamp, birth })
+        Ok(Grade {
+            knobs,
+            stamp,
+            birth,
+        })
     }
 }
 
@@ -111,6 +129,11 @@ impl Setting {
         if lift.is_none() && gamma.is_none() && gain.is_none() && contrast.is_none() {
             return Err(Fault::OutOfRange(site));
         }
-        Ok(Setting { lift, gamma, gain, contrast })
+        Ok(Setting {
+            lift,
+            gamma,
+            gain,
+            contrast,
+        })
     }
 }
