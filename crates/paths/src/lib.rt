@@ -7,4 +7,6 @@ pub mod notation;
 pub mod parts;
 pub mod path;
 pub mod stamp;
+#[cfg(test)]
+mod tests;
 pub mod vector;
