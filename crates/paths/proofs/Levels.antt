@@ -1,13 +1,15 @@
 -- The laws of PathLaws. Each is proved of the list of a path's steps, and then read at its number.
-use Prim.Native.Nat.{ℕ, zero, suc, _+_, _-_, _*_, _/_, _%_, _^_, _<_}
-use mathlib.Core.Bool.{true, _&&_, _||_, not}
+use Prim.Native.Nat.{ℕ, zero, suc, _+_, _-_, _*_, _/_, _%_, _^_, _≤_, _<_}
+use mathlib.Core.Bool.{true, false, _&&_, _||_, not}
 use mathlib.Core.List.{List, [], _∷_}
+use mathlib.Core.Logic.{_⊎_, inl, inr}
 use mathlib.Core.Path.{_≡_, refl, ap, subst, subst₂}
 use native.Mathlib.Nat.{mul-le-mul-right, one-le-pow, zero-div, zero-mod}
 use native.Mathlib.Omega.{arith}
 use lib.Dec.{eqb, leb, ltb}
+use lib.ListN.{length}
 use Rattle.std.proofs.shelf.Bits.{div-add-mod', div-mul-add, mod-mul-add}
-use Rattle.paths.specs.Steps.{is-path, number, steps, is-number, begins, parent, last}
+use Rattle.paths.specs.Steps.{is-path, number, steps, is-number, begins, covers, depth, parent, last}
 use Rattle.paths.specs.PathLaws.{RoundTrip, PathOrder, Covering, Parents, Run, before, front}
 
 pub pow-pos : (n : ℕ) → 0 < 256 ^ n
@@ -188,6 +190,50 @@ parents n =
         of-path n (λ xs p. steps n (parent n p) ≡ front xs)
         (λ xs h. rw (parent-number n xs h) (steps-back n (front xs) (front-lawful n xs h)))
 
+-- the parent of all but the root comes before it
+pub parent-less : (n p : ℕ) → is-number n p ≡ true → 0 < p → parent n p < p
+parent-less zero p h some = grind arith
+parent-less (suc n) p h some = grind (arith, div-add-mod', parent-less n (p % 256 ^ n))
+
+length-front : (xs : List ℕ) → length (front xs) ≡ length xs - 1
+length-front [] = refl
+length-front (x ∷ []) = refl
+length-front (x ∷ (y ∷ ys)) = omega (arith, length-front (y ∷ ys))
+
+pub depth-le : (n p : ℕ) → depth n p ≤ n
+depth-le zero p = omega arith
+depth-le (suc n) p = grind (arith, depth-le n (p % 256 ^ n))
+
+-- only the root has no step
+pub depth-root : (n p : ℕ) → is-number n p ≡ true → depth n p ≤ 0 → p ≡ 0
+depth-root n = of-path n (λ xs p. length xs ≤ 0 → p ≡ 0) (λ xs _. go xs)
+  where
+    go : (xs : List ℕ) → length xs ≤ 0 → number n xs ≡ 0
+    go [] le = refl
+    go (x ∷ xs) le = absurd (omega arith)
+
+pub depth-parent : (n k p : ℕ) → is-number n p ≡ true → depth n p ≤ suc k → depth n (parent n p) ≤ k
+depth-parent n k p h le = rw (parents n .parent-steps p h) (omega (arith, length-front (steps n p)))
+
+-- what holds of p, and of each covered path whose parent it holds of, holds of all that p covers
+pub all-covered :
+    (n p : ℕ) (P : ℕ → Type 0) → is-number n p ≡ true → P p
+    → ((q : ℕ) → is-number n q ≡ true → covers n p q ≡ true → P (parent n q) → P q)
+    → (q : ℕ) → is-number n q ≡ true → covers n p q ≡ true → P q
+all-covered n p P h here step q k c = go n q (depth-le n q) k c
+  where
+    ways : (q : ℕ) → is-number n q ≡ true → covers n p q ≡ true → (p ≡ q) ⊎ ((0 < q) × (covers n p (parent n q) ≡ true))
+    ways q k c = grind (arith, parents n .climbs p q h k)
+
+    go : (d q : ℕ) → depth n q ≤ d → is-number n q ≡ true → covers n p q ≡ true → P q
+    go zero q le k c =
+        elim (ways q k c) [ inl e ↦ subst P e here | inr w ↦ absurd (omega (arith, depth-root n q k le, w .0)) ]
+    go (suc d) q le k c =
+        elim (ways q k c) [
+          | inl e ↦ subst P e here
+          | inr w ↦ step q k c (go d (parent n q) (depth-parent n d q k le) (parents n .parent-lawful q k) (w .1))
+        ]
+
 -- the last number that the root covers is the greatest of n bytes
 last-root : (n : ℕ) → last n 0 ≡ 256 ^ n - 1
 last-root zero = refl
@@ -225,3 +271,13 @@ begins-run (suc n) (x ∷ xs) (y ∷ ys) h k =
 
 pub run : (n : ℕ) → Run n
 run n = of-paths n (λ xs ys p q. begins xs ys ≡ (leb p q && leb q (last n p))) (begins-run n)
+
+-- so a path covers none before it
+pub none-before : (n p q : ℕ) → is-number n p ≡ true → is-number n q ≡ true → q < p → covers n p q ≡ false
+none-before n p q h k less = grind (arith, run n p q h k)
+
+-- and none after a later one that it does not cover
+pub none-after :
+    (n p q r : ℕ) → is-number n p ≡ true → is-number n q ≡ true → is-number n r ≡ true → p ≤ q → covers n p q ≡ false
+    → q < r → covers n p r ≡ false
+none-after n p q r h k l le out less = grind (arith, run n p q h k, run n p r h l)

@@ -1,14 +1,14 @@
 -- Vectors by their places.
-use Prim.Native.Nat.{ℕ, zero, suc, _≤_, _<_, suc-le-suc}
+use Prim.Native.Nat.{ℕ, zero, suc, _≤_, _<_, max, min, suc-le-suc}
 use mathlib.Core.Bool.{Bool, true, false}
 use mathlib.Core.List.{List, [], _∷_}
-use mathlib.Core.Path.{_≡_, refl, ap₂}
+use mathlib.Core.Path.{_≡_, refl, sym, ap, ap₂}
 use native.Mathlib.Omega.{arith}
 use lib.Dec.{leb}
-use lib.ListN.{length, getD}
+use lib.ListN.{length, getD, set}
 use Rattle.std.proofs.shelf.Tests.{le-leb}
 use Rattle.std.proofs.shelf.Ways.{tells}
-use Rattle.paths.specs.Vectors.{place-by-place, at-most}
+use Rattle.paths.specs.Vectors.{put-at, place-by-place, greater, lesser, at-most}
 
 -- a list that has the joined places is the joined vector
 pub joined-by-places :
@@ -44,3 +44,59 @@ not-at-most v w k lt = go (at-most v w) refl
     go : (b : Bool) → at-most v w ≡ b → at-most v w ≡ false
     go true e = absurd (omega (arith, at-most-at v w e k))
     go false e = e
+
+pub at-most-itself : (v : List ℕ) → at-most v v ≡ true
+at-most-itself v = at-most-from v v (λ k _. omega arith)
+
+pub at-most-through : (u v w : List ℕ) → at-most u v ≡ true → at-most v w ≡ true → at-most u w ≡ true
+at-most-through u v w h k = at-most-from u w (λ i _. omega (arith, at-most-at u v h i, at-most-at v w k i))
+
+-- each place of a joined vector is the joined place
+pub joined-at :
+    (f : ℕ → ℕ → ℕ) → f 0 0 ≡ 0 → (v w : List ℕ) (k : ℕ)
+    → getD (place-by-place f v w) k 0 ≡ f (getD v k 0) (getD w k 0)
+joined-at f z [] [] k = sym z
+joined-at f z [] (y ∷ w) zero = refl
+joined-at f z [] (y ∷ w) (suc k) = joined-at f z [] w k
+joined-at f z (x ∷ v) [] zero = refl
+joined-at f z (x ∷ v) [] (suc k) = joined-at f z v [] k
+joined-at f z (x ∷ v) (y ∷ w) zero = refl
+joined-at f z (x ∷ v) (y ∷ w) (suc k) = joined-at f z v w k
+
+-- in the order R, the join of two vectors is the least that is above both
+pub record Joins (R : List ℕ → List ℕ → Type 0) (join : List ℕ → List ℕ → List ℕ) : Type 0 where
+  pub itself : (v : List ℕ) → R v v
+  pub through : (u v w : List ℕ) → R u v → R v w → R u w
+  pub left : (v w : List ℕ) → R v (join v w)
+  pub right : (v w : List ℕ) → R w (join v w)
+  pub least : (u v w : List ℕ) → R v u → R w u → R (join v w) u
+
+pub greater-joins : Joins (λ v w. at-most v w ≡ true) greater
+greater-joins =
+    record {
+      itself = at-most-itself;
+      through = at-most-through;
+      left = λ v w. at-most-from v (greater v w) (λ k _. omega (arith, joined-at max refl v w k));
+      right = λ v w. at-most-from w (greater v w) (λ k _. omega (arith, joined-at max refl v w k));
+      least =
+          λ u v w h g. at-most-from (greater v w) u
+          (λ k _. omega (arith, joined-at max refl v w k, at-most-at v u h k, at-most-at w u g k));
+    }
+
+pub lesser-joins : Joins (λ v w. at-most w v ≡ true) lesser
+lesser-joins =
+    record {
+      itself = at-most-itself;
+      through = λ u v w h g. at-most-through w v u g h;
+      left = λ v w. at-most-from (lesser v w) v (λ k _. omega (arith, joined-at min refl v w k));
+      right = λ v w. at-most-from (lesser v w) w (λ k _. omega (arith, joined-at min refl v w k));
+      least =
+          λ u v w h g. at-most-from u (lesser v w)
+          (λ k _. omega (arith, joined-at min refl v w k, at-most-at u v h k, at-most-at u w g k));
+    }
+
+-- within the list, putting is setting
+pub put-at-set : (v : List ℕ) (i x : ℕ) → i < length v → put-at v i x ≡ set v i x
+put-at-set [] i x lt = absurd (omega arith)
+put-at-set (y ∷ v) zero x lt = refl
+put-at-set (y ∷ v) (suc i) x lt = ap (λ t. y ∷ t) (put-at-set v i x (omega arith))

@@ -6,7 +6,6 @@ use mathlib.Core.Path.{_≡_, refl, sym, ap, ap₂, subst, _∙_}
 use native.Mathlib.Nat.{pow-le-pow-right}
 use native.Mathlib.Numerals.{sub-one}
 use native.Mathlib.Omega.{arith}
-use lib.Dec.{T}
 use lib.ListN.{length, getD}
 use Rattle.std.specs.Options.{mapped}
 use Rattle.std.specs.Written.{decimal}
@@ -17,9 +16,9 @@ use Rattle.std.proofs.shelf.Decimals.{decimal-value, digits-decimal, value-deci
 use Rattle.std.proofs.shelf.Lists.{getD-append-left}
 use Rattle.std.proofs.shelf.Numerals.{Numerals, numerals-by-fold}
 use Rattle.std.proofs.shelf.Tests.{cond-true, cond-false}
-use Rattle.std.proofs.shelf.Ways.{tells}
 use borrow.Author.Needs.{needs}
 use Rattle.paths.proofs.Levels.{by-first, number-lt, of-path, round-trip}
+use Rattle.paths.proofs.Values.{path-lawful}
 use Rattle.paths.specs.Notation.{only-step, read-step, read-steps, add-step, is-dot, read-path, text-of, joined, path-text}
 use Rattle.paths.specs.declared.path.Path.{Path}
 use Rattle.paths.specs.Steps.{levels, is-step, is-path, number, is-number, steps}
@@ -240,14 +239,10 @@ path-read n = of-path n (λ xs p. read-path n (path-text xs) ≡ Some p) go
         (not-dot (joined x xs) (joined-digit x xs (first-is-step n x xs h)))
         ∙ written-read n x xs h
 
-of-test : (b : Bool) → T b → b ≡ true
-of-test true t = refl
-of-test false t = absurd t
-
 pub none-written : (t : List ℕ) → read-path levels t ≡ None → (p : Path) → text-of p ≡ t → ⊥
 none-written t unread p e =
     let clash : Some (p .number) ≡ None =
-    sym (path-read levels (p .number) (of-test (is-number levels (p .number)) (p .lawful))) ∙ ap (read-path levels) e ∙ unread in
+    sym (path-read levels (p .number) (path-lawful p)) ∙ ap (read-path levels) e ∙ unread in
     let z : _≡_ {A = ℕ} 0 1 = cc in omega arith
 
 -- the path that is made of what was read is the one that is written so

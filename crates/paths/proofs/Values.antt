@@ -1,13 +1,22 @@
 -- Values of equal numbers are equal: a range has only one proof.
 use Prim.Native.Nat.{_≤_}
+use mathlib.Core.Bool.{Bool, true, false}
 use mathlib.Core.HLevel.{isProp→PathP}
-use mathlib.Core.Path.{_≡_}
+use mathlib.Core.Path.{_≡_, refl}
 use native.Mathlib.Bridge.{le-prop}
 use lib.Dec.{T, T-prop}
 use Rattle.paths.specs.Steps.{levels, is-number}
 use Rattle.paths.specs.declared.path.Path.{Path}
 use Rattle.paths.specs.declared.stamp.Panel.{Panel}
 use Rattle.paths.specs.declared.stamp.Time.{Time}
+
+-- what a path keeps of its number, as an equation
+pub path-lawful : (p : Path) → is-number levels (p .number) ≡ true
+path-lawful p = of-test (is-number levels (p .number)) (p .lawful)
+  where
+    of-test : (b : Bool) → T b → b ≡ true
+    of-test true t = refl
+    of-test false t = absurd t
 
 pub path-is : (p q : Path) → p .number ≡ q .number → p ≡ q
 path-is p q e =

@@ -1,0 +1,6 @@
+pub mod Climb
+pub mod Making
+pub mod Meaning
+pub mod Slots
+pub mod StoreLaws
+pub mod Tables
