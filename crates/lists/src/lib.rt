@@ -33,6 +33,7 @@ pub fn set_slot<T: Copy>(slots: &mut [T], i: usize, x: T)
     slots[i] = x;
 }
 
+#[derive(Drop)]
 pub struct FrontList<'a, T> {
     pub slots: &'a mut [T],
     pub len: usize,

@@ -10,4 +10,6 @@ pub mod storing;
 pub mod table;
 pub mod table_changes;
 pub mod table_reads;
+#[cfg(test)]
+mod tests;
 pub mod traits;

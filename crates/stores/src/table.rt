@@ -2,6 +2,7 @@
 use crate::entry::Slot;
 use paths::stamp::Panel;
 
+#[derive(Drop)]
 pub struct Table<'a> {
     pub number: Panel,
     pub clock: u32,
