@@ -50,7 +50,6 @@ lawful-with :
     → length es ≤ m .capacity → Lawful (with-entries m es)
 lawful-with m es law order root bare few =
     record {
-      panel = law .panel;
       time = law .time;
       some-room = law .some-room;
       small = law .small;
@@ -92,7 +91,6 @@ lawful-drop m p law =
 pub lawful-tick : (m : Model) → Lawful m → Lawful (tick-model m)
 lawful-tick m law =
     record {
-      panel = law .panel;
       time = let t = law .time in grind arith;
       some-room = law .some-room;
       small = law .small;

@@ -7,7 +7,7 @@ use native.Mathlib.Omega.{arith}
 use denote.Ref.{now}
 use lib.ListN.{length, take, set}
 use Rattle.std.specs.declared.option.Option.the-variants.{Some, None}
-use Rattle.paths.specs.Ranges.{is-panel}
+use Rattle.paths.specs.declared.stamp.Panel.{Panel}
 use Rattle.stores.specs.Making.{blank}
 use Rattle.stores.specs.Meaning.{Model, Lawful}
 use Rattle.stores.specs.Tables.{table-model, TableSound}
@@ -36,10 +36,9 @@ made-room false n k e = (refl, grind arith)
 
 -- a blank store is lawful
 pub lawful-blank :
-    (number capacity : ℕ) → is-panel number ≡ true → 1 ≤ capacity → capacity ≤ 1000 → Lawful (blank number capacity)
-lawful-blank number capacity panel some small =
+    (number : Panel) (capacity : ℕ) → 1 ≤ capacity → capacity ≤ 1000 → Lawful (blank number capacity)
+lawful-blank number capacity some small =
     record {
-      panel = panel;
       time = omega arith;
       some-room = some;
       small = small;

@@ -6,6 +6,7 @@ use lib.Dec.{leb}
 use lib.ListN.{replicate}
 use Rattle.std.specs.declared.option.Option.the-variants.{None}
 use Rattle.paths.specs.Ranges.{is-panel}
+use Rattle.paths.specs.declared.stamp.Panel.{Panel}
 use Rattle.stores.specs.Meaning.{Model}
 use Rattle.stores.specs.declared.entry.Slot.{Slot}
 
@@ -21,6 +22,6 @@ root-slot =
       entry = record { vector = record { places = replicate 8 0 }; grade = None };
     }
 
-abbrev pub blank : ℕ → ℕ → Model
+abbrev pub blank : Panel → ℕ → Model
 blank number capacity =
     record { number = number; clock = 0; capacity = capacity; height = 0; entries = root-slot ∷ [] }

@@ -10,19 +10,19 @@ use Rattle.std.specs.declared.option.Option.{Option}
 use Rattle.std.specs.declared.option.Option.the-variants.{Some, None}
 use Rattle.std.specs.declared.result.Result.{Result}
 use Rattle.std.specs.declared.result.Result.the-variants.{Ok, Err}
-use Rattle.paths.specs.Ranges.{is-panel}
 use Rattle.paths.specs.Steps.{levels, covers, depth}
 use Rattle.paths.specs.Vectors.{greater, lesser}
 use Rattle.paths.specs.declared.fault.Cause.the-variants.{Full, LastTime}
 use Rattle.paths.specs.declared.fault.StoreFault.{StoreFault}
 use Rattle.paths.specs.declared.path.Path.{Path}
+use Rattle.paths.specs.declared.stamp.Panel.{Panel}
 use Rattle.stores.specs.declared.entry.Entry.{Entry}
 use Rattle.stores.specs.declared.entry.Slot.{Slot}
 use Rattle.stores.specs.Climb.{climb}
 use Rattle.stores.specs.Slots.{key, lookup, put, drop, rises}
 
 pub record Model : Type 0 where
-  pub number : ℕ
+  pub number : Panel
   pub clock : ℕ
   pub capacity : ℕ
   pub height : ℕ
@@ -42,7 +42,6 @@ bare-folders (s ∷ es) = (is-leaf (key s) || not (isSome (s .entry .grade))) &&
 
 -- what every store keeps
 pub record Lawful (m : Model) : Type 0 where
-  pub panel : is-panel (m .number) ≡ true
   pub time : m .clock ≤ 1000000
   pub some-room : 1 ≤ m .capacity
   pub small : m .capacity ≤ 1000

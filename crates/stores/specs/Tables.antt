@@ -10,7 +10,7 @@ use Rattle.stores.specs.declared.table.Table.{Table}
 abbrev pub table-model : Table → Model
 table-model t =
     record {
-      number = t .number .number;
+      number = t .number;
       clock = t .clock;
       capacity = t .capacity;
       height = 0;

@@ -58,7 +58,7 @@ impl<'a> Table<'a> {
     // A blank table; later places of the list stay as they are.
     pub fn make(number: Panel, capacity: usize, slots: &'a mut [Slot]) -> Table<'a>
         requires { ⌜ 1 ≤ capacity ⌝ ∗ ⌜ capacity ≤ 1000 ⌝ ∗ ⌜ capacity ≤ length (now slots) ⌝ }
-        ensures model { λ r. ⌜ table-model r ≡ blank (number .number) capacity ⌝ }
+        ensures model { λ r. ⌜ table-model r ≡ blank number capacity ⌝ }
         ensures sound { λ r. ⌜ TableSound r ⌝ }
         ensures slots { λ r. ⌜ now (r .slots) ≡ set (now (slots .entry)) 0 root-slot ⌝ }
         ensures same { λ r. ⌜ name (r .slots) ≡ name (slots .entry) ⌝ }

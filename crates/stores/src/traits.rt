@@ -21,7 +21,7 @@ pub trait ReadHalf {
 
     fn number(&self) -> Panel
         requires { ⌜ sound (now self) ⌝ }
-        ensures { λ r. ⌜ r .number ≡ model (now (self .entry)) .number ⌝ };
+        ensures { λ r. ⌜ r ≡ model (now (self .entry)) .number ⌝ };
 
     fn clock(&self) -> u32
         requires { ⌜ sound (now self) ⌝ }

@@ -11,13 +11,13 @@ use Rattle.stores.proofs.table.Table.make.Needs as need
 pub returns : need.returns
 returns c =
     let model =
-    ap (with-entries (blank (c .args .number .number) (c .args .capacity)))
+    ap (with-entries (blank (c .args .number) (c .args .capacity)))
     (ap (take 1) (c .write-root .ensures) ∙ first-only (c .args .slots .now) root-slot (omega arith)) in
     record {
       model = model;
       sound =
           sound-as _ _ model
-          (lawful-blank (c .args .number .number) (c .args .capacity) (grind arith) (omega arith) (omega arith)) (omega arith)
+          (lawful-blank (c .args .number) (c .args .capacity) (omega arith) (omega arith)) (omega arith)
           (omega arith);
       slots = c .write-root .ensures;
       same = search needs;
