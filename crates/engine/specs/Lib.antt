@@ -1,2 +1,6 @@
+pub mod Acts
+pub mod Conflicts
+pub mod Knowledge
 pub mod LeafLaws
 pub mod LeafRule
+pub mod Syncs
