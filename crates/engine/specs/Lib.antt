@@ -3,4 +3,5 @@ pub mod Conflicts
 pub mod Knowledge
 pub mod LeafLaws
 pub mod LeafRule
+pub mod SyncLaws
 pub mod Syncs

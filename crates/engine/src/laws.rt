@@ -1,5 +1,7 @@
-// What holds of the leaf rule for all sides. Nothing runs here: each contract is the law.
+// What holds of the leaf rule for all sides, and of the definition of a sync for all stores. Nothing runs here: each
+// contract is the law.
 ghost use Rattle.engine.specs.LeafLaws.{WorkedLeaves, Symmetric, NotOverKnown, OneStamp};
+ghost use Rattle.engine.specs.SyncLaws.{PassedIsKnown};
 
 // The rule at eight leaves, each computed.
 pub fn worked_leaves()
@@ -19,4 +21,9 @@ pub fn known_stamp_never_overwrites()
 // Sides of one stamp are never in conflict.
 pub fn one_stamp_is_kept()
     ensures { λ _. ⌜ OneStamp ⌝ }
+{}
+
+// In a folder that a sync passes by, the destination knows all that the source knows.
+pub fn passed_folder_is_known()
+    ensures { λ _. ⌜ PassedIsKnown ⌝ }
 {}

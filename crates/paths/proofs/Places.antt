@@ -1,10 +1,10 @@
 -- Vectors by their places.
 use Prim.Native.Nat.{ℕ, zero, suc, _≤_, _<_, max, min, suc-le-suc}
-use mathlib.Core.Bool.{Bool, true, false}
+use mathlib.Core.Bool.{Bool, true, false, cond}
 use mathlib.Core.List.{List, [], _∷_}
-use mathlib.Core.Path.{_≡_, refl, sym, ap, ap₂}
+use mathlib.Core.Path.{_≡_, refl, sym, ap, ap₂, _∙_}
 use native.Mathlib.Omega.{arith}
-use lib.Dec.{leb}
+use lib.Dec.{eqb, leb}
 use lib.ListN.{length, getD, set}
 use Rattle.std.proofs.shelf.Tests.{le-leb}
 use Rattle.std.proofs.shelf.Ways.{tells}
@@ -100,3 +100,20 @@ pub put-at-set : (v : List ℕ) (i x : ℕ) → i < length v → put-at v i x �
 put-at-set [] i x lt = absurd (omega arith)
 put-at-set (y ∷ v) zero x lt = refl
 put-at-set (y ∷ v) (suc i) x lt = ap (λ t. y ∷ t) (put-at-set v i x (omega arith))
+
+-- what stands at each place after one is put
+pub put-at-at : (v : List ℕ) (i x k : ℕ) → getD (put-at v i x) k 0 ≡ cond (eqb k i) x (getD v k 0)
+put-at-at [] zero x zero = refl
+put-at-at [] zero x (suc k) = grind arith
+put-at-at [] (suc i) x zero = grind arith
+put-at-at [] (suc i) x (suc k) = put-at-at [] i x k ∙ grind arith
+put-at-at (y ∷ v) zero x zero = refl
+put-at-at (y ∷ v) zero x (suc k) = grind arith
+put-at-at (y ∷ v) (suc i) x zero = grind arith
+put-at-at (y ∷ v) (suc i) x (suc k) = put-at-at v i x k ∙ grind arith
+
+-- the same number at one place of both keeps the order
+pub put-at-most : (v w : List ℕ) (i x : ℕ) → at-most v w ≡ true → at-most (put-at v i x) (put-at w i x) ≡ true
+put-at-most v w i x h =
+    at-most-from (put-at v i x) (put-at w i x)
+    (λ k _. (let le = at-most-at v w h k in grind (arith, put-at-at v i x k, put-at-at w i x k)))
