@@ -1,1 +1,3 @@
+pub mod Gathered
 pub mod Passing
+pub mod Settling

@@ -1,7 +1,7 @@
 // What holds of the leaf rule for all sides, and of the definition of a sync for all stores. Nothing runs here: each
 // contract is the law.
 ghost use Rattle.engine.specs.LeafLaws.{WorkedLeaves, Symmetric, NotOverKnown, OneStamp};
-ghost use Rattle.engine.specs.SyncLaws.{PassedIsKnown};
+ghost use Rattle.engine.specs.SyncLaws.{PassedIsKnown, SyncSettles};
 
 // The rule at eight leaves, each computed.
 pub fn worked_leaves()
@@ -26,4 +26,9 @@ pub fn one_stamp_is_kept()
 // In a folder that a sync passes by, the destination knows all that the source knows.
 pub fn passed_folder_is_known()
     ensures { λ _. ⌜ PassedIsKnown ⌝ }
+{}
+
+// After a sync the destination knows at every path what it should, and enters a path exactly if that is due.
+pub fn sync_settles()
+    ensures { λ _. ⌜ SyncSettles ⌝ }
 {}
