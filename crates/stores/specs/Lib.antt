@@ -1,4 +1,5 @@
 pub mod Climb
+pub mod Located
 pub mod Making
 pub mod Meaning
 pub mod Slots

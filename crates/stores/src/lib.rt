@@ -1,6 +1,7 @@
 // Stores: what a panel keeps of its tree, by one meaning for every make of store.
 
 pub mod entry;
+pub mod faults;
 pub mod laws;
 pub mod making;
 pub mod search;
