@@ -1,3 +1,4 @@
 pub mod Gathered
+pub mod Keeping
 pub mod Passing
 pub mod Settling

@@ -252,7 +252,7 @@ module _ (a b : Model) (top : ℕ) where
   moves-from p touch folder none = rw (touch, folder, none)
 
   -- a folder, and a leaf that is entered on neither side, have no outcome
-  leaf-at-folder : (p : ℕ) → is-leaf p ≡ false → leaf-outcome a b top p ≡ None
+  pub leaf-at-folder : (p : ℕ) → is-leaf p ≡ false → leaf-outcome a b top p ≡ None
   unfolding leaf-outcome
   leaf-at-folder p folder =
       cond-false (touched a b top p && is-leaf p) _ None (and-right (touched a b top p) (is-leaf p) folder)
@@ -265,7 +265,7 @@ module _ (a b : Model) (top : ℕ) where
       (λ _. refl)
 
   -- what is touched is settled, and all else stays
-  entry-touched :
+  pub entry-touched :
       (p : ℕ) → touched a b top p ≡ true
       → entry-after a b top p
       ≡ settled b p (vector-after a b top p) (vector-after a b top (parent levels p))
@@ -273,7 +273,7 @@ module _ (a b : Model) (top : ℕ) where
   unfolding entry-after
   entry-touched p h = cond-true (touched a b top p) _ _ h
 
-  entry-kept : (p : ℕ) → touched a b top p ≡ false → entry-after a b top p ≡ lookup (b .entries) p
+  pub entry-kept : (p : ℕ) → touched a b top p ≡ false → entry-after a b top p ≡ lookup (b .entries) p
   unfolding entry-after
   entry-kept p h = cond-false (touched a b top p) _ _ h
 
@@ -317,7 +317,7 @@ module _ (a b : Model) (top : ℕ) where
       ]
 
   -- one that is not is not the root, and has the places of its parent
-  not-entered :
+  pub not-entered :
       Lawful b → (q : ℕ) → is-number levels q ≡ true → entry-after a b top q ≡ None
       → (q ≡ 0 → ⊥) × (same-places (vector-after a b top q) (vector-after a b top (parent levels q)) ≡ true)
   not-entered lawful q k h =
@@ -421,7 +421,7 @@ module _ (a b : Model) (top : ℕ) where
       ]
 
 -- what is found after the call is what each path has after it
-found-after :
+pub found-after :
     (a b : Model) (top : Path) → Lawful b → (q : ℕ) → is-number levels q ≡ true
     → lookup (entries-after a b top) q ≡ entry-after a b (top .number) q
 found-after a b top lawful q k =

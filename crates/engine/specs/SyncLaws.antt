@@ -1,8 +1,9 @@
 -- What holds of the definition of a sync. `laws.rt` promises each.
-use Prim.Native.Nat.{ℕ}
+use Prim.Native.Nat.{ℕ, _≤_}
 use mathlib.Core.Bool.{true, false}
 use mathlib.Core.Path.{_≡_}
 use Rattle.std.specs.declared.option.Option.the-variants.{None}
+use lib.ListN.{length}
 use Rattle.paths.specs.Steps.{levels, is-number, covers}
 use Rattle.paths.specs.Vectors.{at-most, same-places}
 use Rattle.paths.specs.declared.path.Path.{Path}
@@ -34,3 +35,9 @@ pub record AfterSync (a b : Model) (top : Path) (q : ℕ) : Type 0 where
 abbrev pub SyncSettles : Type 0
 SyncSettles =
     (a b : Model) (top : Path) (q : ℕ) → Lawful b → is-number levels q ≡ true → AfterSync a b top q
+
+-- a sync that is not refused leaves a lawful store
+abbrev pub SyncKeepsLawful : Type 0
+SyncKeepsLawful =
+    (a b : Model) (top : Path) → Lawful b → length (entries-after a b top) ≤ b .capacity
+    → Lawful (with-entries b (entries-after a b top))

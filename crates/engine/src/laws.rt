@@ -1,7 +1,7 @@
 // What holds of the leaf rule for all sides, and of the definition of a sync for all stores. Nothing runs here: each
 // contract is the law.
 ghost use Rattle.engine.specs.LeafLaws.{WorkedLeaves, Symmetric, NotOverKnown, OneStamp};
-ghost use Rattle.engine.specs.SyncLaws.{PassedIsKnown, SyncSettles};
+ghost use Rattle.engine.specs.SyncLaws.{PassedIsKnown, SyncSettles, SyncKeepsLawful};
 
 // The rule at eight leaves, each computed.
 pub fn worked_leaves()
@@ -31,4 +31,9 @@ pub fn passed_folder_is_known()
 // After a sync the destination knows at every path what it should, and enters a path exactly if that is due.
 pub fn sync_settles()
     ensures { λ _. ⌜ SyncSettles ⌝ }
+{}
+
+// A sync that is not refused leaves a lawful store: in path order, with the root, grades at leaves only, within capacity.
+pub fn sync_keeps_lawful()
+    ensures { λ _. ⌜ SyncKeepsLawful ⌝ }
 {}

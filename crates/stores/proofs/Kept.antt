@@ -18,7 +18,7 @@ use Rattle.stores.specs.declared.entry.Entry.{Entry}
 use Rattle.stores.specs.declared.entry.Slot.{Slot}
 
 -- a folder's slot has no grade
-abbrev is-bare : Slot → Bool
+abbrev pub is-bare : Slot → Bool
 is-bare s = is-leaf (key s) || not (isSome (s .entry .grade))
 
 bare-put : (es : List Slot) (s : Slot) → bare-folders es ≡ true → is-bare s ≡ true → bare-folders (put es s) ≡ true
@@ -45,7 +45,7 @@ stored-bare p e = go (is-leaf (p .number)) (e .grade)
     go false g = refl
 
 -- other entries that are in order, rooted, bare and few enough
-lawful-with :
+pub lawful-with :
     (m : Model) (es : List Slot) → Lawful m → rises es ≡ true → isSome (lookup es 0) ≡ true → bare-folders es ≡ true
     → length es ≤ m .capacity → Lawful (with-entries m es)
 lawful-with m es law order root bare few =
