@@ -32,7 +32,7 @@ has-withs : (es : List Slot) (ps : List Path) (q : ℕ) → has q (with-paths es
 has-withs [] ps q = refl
 has-withs (s ∷ es) ps q = grind (arith, has-with (s .path) (with-paths es ps) q, has-withs es ps q)
 
-not-some : {X : Type 0} (o : Option X) → isSome o ≡ false → o ≡ None
+pub not-some : {X : Type 0} (o : Option X) → isSome o ≡ false → o ≡ None
 not-some None h = refl
 not-some (Some x) h = absurd (true≢false h)
 
@@ -52,7 +52,8 @@ no-candidate a b p q out =
       not-some (lookup (b .entries) q) not-b,
     )
 
-lookup-slot :
+-- what is found where a slot may come first
+pub lookup-slot :
     (p : Path) (o : Option Entry) (es : List Slot) (q : ℕ)
     → lookup (slot-of p o ++ es) q ≡ cond (eqb (p .number) q) (first-of o (lookup es q)) (lookup es q)
 lookup-slot p None es q = grind arith

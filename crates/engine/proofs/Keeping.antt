@@ -44,7 +44,8 @@ use Rattle.engine.specs.Syncs.{
   candidates,
   entries-after,
 }
-use Rattle.engine.proofs.Settling.{leaf-at-folder, entry-touched, entry-kept, not-entered, found-after}
+use Rattle.engine.proofs.Knowing.{Fits}
+use Rattle.engine.proofs.Settling.{leaf-at-folder, entry-touched, entry-kept, entry-fits, found-after}
 
 -- every path comes after q
 abbrev later : ℕ → List Path → Bool
@@ -186,7 +187,8 @@ module _ (a b : Model) (top : ℕ) (lawful : Lawful b) where
   -- the root is entered
   root-entered : isSome (entry-after a b top 0) ≡ true
   root-entered =
-      not-none (entry-after a b top 0) (λ none. not-entered a b top lawful 0 refl none .0 refl)
+      not-none (entry-after a b top 0)
+      (λ none. subst (Fits b (vector-after a b top) 0) none (entry-fits a b top lawful 0 refl) .0 refl)
 
 pub sync-keeps-lawful : SyncKeepsLawful
 sync-keeps-lawful a b top lawful few =

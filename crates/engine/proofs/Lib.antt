@@ -1,4 +1,6 @@
+pub mod Acting
 pub mod Gathered
 pub mod Keeping
+pub mod Knowing
 pub mod Passing
 pub mod Settling

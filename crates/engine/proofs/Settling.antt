@@ -1,7 +1,7 @@
 -- After a sync the destination knows at every path what it should, and enters a path exactly if that is due.
-use Prim.Native.Nat.{ℕ, zero, suc, _-_, _≤_}
+use Prim.Native.Nat.{ℕ, zero, suc, _-_}
 use mathlib.Core.Bool.{Bool, true, false, cond, _&&_, _||_, not}
-use mathlib.Core.List.{List, [], _∷_}
+use mathlib.Core.List.{List}
 use mathlib.Core.Logic.{inl, inr}
 use mathlib.Core.Path.{_≡_, refl, sym, ap, ap₂, subst, _∙_}
 use native.Mathlib.Omega.{arith}
@@ -20,28 +20,23 @@ use Rattle.std.proofs.shelf.Tests.{
   cases-eq,
   both-ways,
   not-true,
-  not-false,
   eqb-true,
-  eqb-false,
   ne-eqb,
   or-cases,
   or-parts,
   or-from,
 }
-use Rattle.paths.proofs.Levels.{covering, parents, all-covered, depth-le, depth-parent}
-use Rattle.paths.proofs.Places.{at-most-itself, at-most-through, put-at-most, greater-joins}
+use Rattle.paths.proofs.Levels.{covering, parents}
+use Rattle.paths.proofs.Places.{at-most-itself, put-at-most, greater-joins}
 use Rattle.paths.proofs.Values.{path-lawful}
-use Rattle.paths.specs.Steps.{levels, is-number, covers, parent, depth}
-use Rattle.paths.specs.Vectors.{put-at, with-place, greater, at-most, same-places}
-use Rattle.paths.specs.declared.grade.Grade.{Grade}
+use Rattle.paths.specs.Steps.{levels, is-number, covers, parent}
+use Rattle.paths.specs.Vectors.{with-place, greater, at-most, same-places}
 use Rattle.paths.specs.declared.path.Path.{Path}
-use Rattle.stores.proofs.Bounds.{climb-step, nearest-here, nearest-above}
+use Rattle.stores.proofs.Bounds.{climb-step}
 use Rattle.stores.specs.Climb.{first-of, climb, climb-by}
-use Rattle.stores.specs.Meaning.{Model, Lawful, is-leaf, nearest, with-entries}
+use Rattle.stores.specs.Meaning.{Model, Lawful, is-leaf, nearest}
 use Rattle.stores.specs.Slots.{lookup}
-use Rattle.stores.specs.declared.entry.Entry.{Entry}
-use Rattle.stores.specs.declared.entry.Slot.{Slot}
-use Rattle.engine.specs.Knowledge.{own, vector-at, grade-at, outcome-at, is-conflict, due, settled}
+use Rattle.engine.specs.Knowledge.{own, vector-at, grade-at, outcome-at, is-conflict, settled}
 use Rattle.engine.specs.SyncLaws.{SyncSettles}
 use Rattle.engine.specs.Syncs.{
   grade-after,
@@ -55,37 +50,20 @@ use Rattle.engine.specs.Syncs.{
   entries-after,
 }
 use Rattle.engine.proofs.Gathered.{has, no-candidate, gathered}
+use Rattle.engine.proofs.Knowing.{
+  same-itself,
+  put-twice,
+  own-cleared,
+  vector-above,
+  vector-cleared,
+  parent-folder,
+  not-root,
+  Fits,
+  settled-fits,
+  kept-fits,
+  knows,
+}
 use Rattle.engine.proofs.Passing.{passed-is-known}
-
--- vectors with the same places: each is at most the other
-same-itself : (v : List ℕ) → same-places v v ≡ true
-same-itself v = and-from (at-most v v) (at-most v v) (at-most-itself v) (at-most-itself v)
-
-same-from : (v w : List ℕ) → v ≡ w → same-places v w ≡ true
-same-from v w e = rw e (same-itself w)
-
-same-back : (v w : List ℕ) → same-places v w ≡ true → same-places w v ≡ true
-same-back v w h =
-    let (le, ge) = and-parts (at-most v w) (at-most w v) h in and-from (at-most w v) (at-most v w) ge le
-
-same-through : (u v w : List ℕ) → same-places u v ≡ true → same-places v w ≡ true → same-places u w ≡ true
-same-through u v w h k =
-    let (le, ge) = and-parts (at-most u v) (at-most v u) h in
-    let (le′, ge′) = and-parts (at-most v w) (at-most w v) k in
-    and-from (at-most u w) (at-most w u) (at-most-through u v w le le′) (at-most-through w v u ge′ ge)
-
--- of two puts at one place the later stands
-put-twice : (v : List ℕ) (i x y : ℕ) → put-at (put-at v i x) i y ≡ put-at v i y
-put-twice [] zero x y = refl
-put-twice [] (suc i) x y = ap (λ t. 0 ∷ t) (put-twice [] i x y)
-put-twice (z ∷ v) zero x y = refl
-put-twice (z ∷ v) (suc i) x y = ap (λ t. z ∷ t) (put-twice v i x y)
-
--- the panel's own place may be cleared: the clock is put back
-own-cleared : (m : Model) (v : List ℕ) → own m (with-place (own m v) (m .number .number) 0) ≡ own m v
-own-cleared m v =
-    let i : ℕ = m .number .number - 1 in
-    put-twice (own m v) i 0 (m .clock) ∙ put-twice v i (m .clock) (m .clock)
 
 -- the greater of a vector and one that it is at most is the latter
 own-greater :
@@ -100,28 +78,6 @@ own-greater m v w h =
     (put-at-most (own m w) both i (m .clock) (greater-joins .right v (own m w)))
     (put-at-most both (own m w) i (m .clock)
     (greater-joins .least (own m w) v (own m w) h (at-most-itself (own m w)))))
-
--- a parent is no leaf
-parent-folder : (q : ℕ) → is-number levels q ≡ true → is-leaf (parent levels q) ≡ false
-parent-folder q k =
-    let le : depth levels (parent levels q) ≤ 3 = depth-parent levels 3 q k (depth-le levels q) in
-    ne-eqb (depth levels (parent levels q)) levels (λ e. omega (arith, le, e))
-
--- where nothing is entered the vector is the parent's, and where an entry is, it is the entry's
-vector-above :
-    (m : Model) (q : ℕ) → is-number levels q ≡ true → lookup (m .entries) q ≡ None
-    → vector-at m q ≡ vector-at m (parent levels q)
-unfolding vector-at
-vector-above m q k none = ap (own m) (nearest-above (m .entries) q k none)
-
-vector-here :
-    (m : Model) (q : ℕ) (e : Entry) → lookup (m .entries) q ≡ Some e → vector-at m q ≡ own m (e .vector .places)
-unfolding vector-at
-vector-here m q e found = ap (own m) (nearest-here (m .entries) q e found)
-
-vector-cleared : (m : Model) (q : ℕ) → own m (with-place (vector-at m q) (m .number .number) 0) ≡ vector-at m q
-unfolding vector-at
-vector-cleared m q = own-cleared m (nearest (m .entries) q)
 
 -- what is known adds nothing
 known-greater :
@@ -144,27 +100,7 @@ unfolding climb-by
 climb-root zero t = grind arith
 climb-root (suc n) t = grind (arith, climb-root n t)
 
-cond-some : {X : Type 0} (d : Bool) (x e : X) → cond d (Some x) None ≡ Some e → x ≡ e
-cond-some true x e h = cc
-cond-some false x e h = cc
-
-cond-none : {X : Type 0} (d : Bool) (x : X) → cond d (Some x) None ≡ None → d ≡ false
-cond-none true x h = cc
-cond-none false x h = refl
-
--- a path that is settled is entered with its vector, or is not the root and has the places of its parent
-settled-some :
-    (m : Model) (p : ℕ) (v up : List ℕ) (g : Option Grade) (e : Entry) → settled m p v up g ≡ Some e
-    → with-place v (m .number .number) 0 ≡ e .vector .places
-settled-some m p v up g e h = ap (λ f. f .vector .places) (cond-some (due p v up g) _ e h)
-
-settled-none :
-    (m : Model) (p : ℕ) (v up : List ℕ) (g : Option Grade) → settled m p v up g ≡ None
-    → (p ≡ 0 → ⊥) × (same-places v up ≡ true)
-settled-none m p v up g h =
-    let (bare, same) = or-parts (eqb p 0 || isSome g) (not (same-places v up)) (cond-none (due p v up g) _ h) in
-    (eqb-false p 0 (or-parts (eqb p 0) (isSome g) bare .0), not-false (same-places v up) same)
-
+-- a path without a grade that has the places of its parent is not due
 settled-not :
     (m : Model) (p : ℕ) (v up : List ℕ) → (p ≡ 0 → ⊥) → same-places v up ≡ true → settled m p v up None ≡ None
 settled-not m p v up some same = rw (ne-eqb p 0 some, same)
@@ -174,11 +110,6 @@ outcome-empty :
     (a b : Model) (p : ℕ) → lookup (a .entries) p ≡ None → lookup (b .entries) p ≡ None → outcome-at a b p ≡ None
 unfolding outcome-at
 outcome-empty a b p none-a none-b = rw (none-a, none-b)
-
--- the root is entered
-not-root : (m : Model) → Lawful m → (q : ℕ) → lookup (m .entries) q ≡ None → q ≡ 0 → ⊥
-not-root m lawful q none z =
-    both-ways (isSome (lookup (m .entries) 0)) (ap isSome (rw z at none)) (lawful .rooted)
 
 module _ (a b : Model) (top : ℕ) where
   -- the paths that get the greater of both vectors
@@ -305,59 +236,17 @@ module _ (a b : Model) (top : ℕ) where
         | inr m ↦ after-stays (parent levels q) m
       ]
 
-  -- a path that is entered after a sync has the vector of its entry
-  entered-vector :
-      (q : ℕ) (e : Entry) → entry-after a b top q ≡ Some e → own b (e .vector .places) ≡ vector-after a b top q
-  entered-vector q e h =
+  -- each path is entered after a sync with its vector, or is not the root and has the places of its parent
+  pub entry-fits :
+      Lawful b → (q : ℕ) → is-number levels q ≡ true → Fits b (vector-after a b top) q (entry-after a b top q)
+  entry-fits lawful q k =
       elim (cases-bool (touched a b top q)) [
         | inl t ↦
-            ap (own b) (sym (settled-some b q (vector-after a b top q) _ _ e (sym (entry-touched q t) ∙ h)))
-            ∙ after-cleared q
-        | inr t ↦ sym (vector-here b q e (sym (entry-kept q t) ∙ h)) ∙ sym (kept-vector q t)
-      ]
-
-  -- one that is not is not the root, and has the places of its parent
-  pub not-entered :
-      Lawful b → (q : ℕ) → is-number levels q ≡ true → entry-after a b top q ≡ None
-      → (q ≡ 0 → ⊥) × (same-places (vector-after a b top q) (vector-after a b top (parent levels q)) ≡ true)
-  not-entered lawful q k h =
-      elim (cases-bool (touched a b top q)) [
-        | inl t ↦
-            settled-none b q (vector-after a b top q) (vector-after a b top (parent levels q)) _
-            (sym (entry-touched q t) ∙ h)
+            rw (entry-touched q t) (settled-fits b (vector-after a b top) q _ _ _ refl refl (after-cleared q))
         | inr t ↦
-            (let none : lookup (b .entries) q ≡ None = sym (entry-kept q t) ∙ h in
-            let some : q ≡ 0 → ⊥ = not-root b lawful q none in (
-              some,
-              same-from (vector-after a b top q) (vector-after a b top (parent levels q))
-                  (kept-vector q t ∙ vector-above b q k none ∙ sym (kept-above q k some t)),
-            ))
+            rw (entry-kept q t)
+            (kept-fits b lawful (vector-after a b top) q k (kept-vector q t) (λ some. kept-above q k some t))
       ]
-
-  -- a store in which these entries are found knows at each path what it should: by its entry, or as its parent does
-  module _
-      (lawful : Lawful b) (es : List Slot)
-      (found : (q : ℕ) → is-number levels q ≡ true → lookup es q ≡ entry-after a b top q) where
-    abbrev Knows : ℕ → Type 0
-    Knows q = same-places (vector-at (with-entries b es) q) (vector-after a b top q) ≡ true
-
-    knows-from :
-        (q : ℕ) → is-number levels q ≡ true → ((q ≡ 0 → ⊥) → Knows (parent levels q)) → (o : Option Entry)
-        → lookup es q ≡ o → Knows q
-    knows-from q k above None none =
-        let (some, same) = not-entered lawful q k (sym (found q k) ∙ none) in
-        rw (vector-above (with-entries b es) q k none)
-        (same-through (vector-at (with-entries b es) (parent levels q)) (vector-after a b top (parent levels q))
-        (vector-after a b top q) (above some)
-        (same-back (vector-after a b top q) (vector-after a b top (parent levels q)) same))
-    knows-from q k above (Some e) here =
-        same-from (vector-at (with-entries b es) q) (vector-after a b top q)
-        (vector-here (with-entries b es) q e here ∙ entered-vector q e (sym (found q k) ∙ here))
-
-    knows-after : (q : ℕ) → is-number levels q ≡ true → Knows q
-    knows-after q k =
-        all-covered levels 0 Knows refl (knows-from 0 refl (λ some. absurd (some refl)) (lookup es 0) refl)
-        (λ r l _ above. knows-from r l (λ _. above) (lookup es r) refl) q k refl
 
   -- at a path that is entered on neither side, is not the path of the call, and is touched
   module _
@@ -435,6 +324,7 @@ sync-settles a b top q lawful-b lawful-q =
     record {
       found = found-after a b top lawful-b q lawful-q;
       vector =
-          knows-after a b (top .number) lawful-b (entries-after a b top) (found-after a b top lawful-b) q lawful-q;
+          knows b (entries-after a b top) (vector-after a b (top .number))
+          (λ r l. rw (found-after a b top lawful-b r l) (entry-fits a b (top .number) lawful-b r l)) q lawful-q;
       nothing-new = nothing-new a b (top .number) lawful-b (path-lawful top) q lawful-q;
     }

@@ -1,3 +1,4 @@
+pub mod ActLaws
 pub mod Acts
 pub mod Conflicts
 pub mod Knowledge

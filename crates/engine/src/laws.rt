@@ -1,5 +1,6 @@
-// What holds of the leaf rule for all sides, and of the definition of a sync for all stores. Nothing runs here: each
+// What holds of the leaf rule for all sides, and of the definitions of the calls for all stores. Nothing runs here: each
 // contract is the law.
+ghost use Rattle.engine.specs.ActLaws.{WriteSettles, RemoveSettles, ChoiceSettles};
 ghost use Rattle.engine.specs.LeafLaws.{WorkedLeaves, Symmetric, NotOverKnown, OneStamp};
 ghost use Rattle.engine.specs.SyncLaws.{PassedIsKnown, SyncSettles, SyncKeepsLawful};
 
@@ -36,4 +37,19 @@ pub fn sync_settles()
 // A sync that is not refused leaves a lawful store: in path order, with the root, grades at leaves only, within capacity.
 pub fn sync_keeps_lawful()
     ensures { λ _. ⌜ SyncKeepsLawful ⌝ }
+{}
+
+// A write changes the grade at its leaf, and what is known nowhere.
+pub fn write_settles()
+    ensures { λ _. ⌜ WriteSettles ⌝ }
+{}
+
+// A removal takes the covered grades, and changes what is known nowhere.
+pub fn remove_settles()
+    ensures { λ _. ⌜ RemoveSettles ⌝ }
+{}
+
+// A choice changes grade and vector at its leaf, and nothing elsewhere.
+pub fn choice_settles()
+    ensures { λ _. ⌜ ChoiceSettles ⌝ }
 {}
