@@ -105,7 +105,7 @@ write-settles m p g q lawful leaf room k =
         }
 
 -- what is found after a leaf was put or dropped
-lookup-put-or-drop :
+pub lookup-put-or-drop :
     (es : List Slot) (p : Path) (o : Option Entry) (q : ℕ) → rises es ≡ true
     → lookup (put-or-drop es p o) q ≡ cond (eqb (p .number) q) o (lookup es q)
 lookup-put-or-drop es p None q order = lookup-drop es (p .number) q order
@@ -141,11 +141,11 @@ first-or-none (Some y) x none = refl
 -- a removal over p
 module _ (m : Model) (p : ℕ) where
   -- a leaf that loses its grade
-  abbrev bared : ℕ → Option Entry
+  abbrev pub bared : ℕ → Option Entry
   bared q = settled m q (vector-at m q) (vector-at m (parent levels q)) None
 
   -- what is found at q after it
-  abbrev left : ℕ → Option Entry → Option Entry
+  abbrev pub left : ℕ → Option Entry → Option Entry
   left q None = None
   left q (Some e) = cond (covers levels p q && isSome (e .grade)) (bared q) (Some e)
 
@@ -168,14 +168,14 @@ module _ (m : Model) (p : ℕ) where
       go false e = found
 
   -- one slot, or none
-  one-slot :
+  pub one-slot :
       (b : Bool) (s : Slot) (o : Option Entry)
       → cond b (slot-of (s .path) o) (s ∷ []) ≡ slot-of (s .path) (cond b o (Some (s .entry)))
   one-slot true s o = refl
   one-slot false s o = refl
 
   -- by the slots in their order
-  found-left :
+  pub found-left :
       (es : List Slot) (q : ℕ) → rises es ≡ true → lookup (after-removal m p es) q ≡ left q (lookup es q)
   found-left [] q order = refl
   found-left (s ∷ es) q order =

@@ -92,7 +92,7 @@ rising-candidates a b top =
     (rising-withs (a .entries) on-b (rising-withs (b .entries) [] refl))
 
 -- at most one slot is gathered at each path, so the slots rise as the paths do
-after-slot :
+pub after-slot :
     (p : Path) (o : Option Entry) (es : List Slot) (q : ℕ) → ltb q (p .number) ≡ true → after q es ≡ true
     → after q (slot-of p o ++ es) ≡ true
 after-slot p None es q lt h = h
@@ -105,7 +105,7 @@ after-gathered f (p ∷ ps) q h =
     let (lt, rest) = and-parts (ltb q (p .number)) (later q ps) h in
     after-slot p (f (p .number)) (gather f ps) q lt (after-gathered f ps q rest)
 
-rises-slot :
+pub rises-slot :
     (p : Path) (o : Option Entry) (es : List Slot) → after (p .number) es ≡ true → rises es ≡ true
     → rises (slot-of p o ++ es) ≡ true
 rises-slot p None es first h = h
@@ -118,7 +118,7 @@ rises-gathered f (p ∷ ps) h =
     rises-slot p (f (p .number)) (gather f ps) (after-gathered f ps (p .number) first) (rises-gathered f ps rest)
 
 -- at a folder this has no grade
-abbrev bare-at : ℕ → Option Entry → Bool
+abbrev pub bare-at : ℕ → Option Entry → Bool
 bare-at q o = is-leaf q || not (isSome (grade-of o))
 
 none-bare : (q : ℕ) → bare-at q None ≡ true
@@ -138,13 +138,13 @@ due-bare : (d : Bool) (q : ℕ) (e : Entry) → bare-at q (Some e) ≡ true → 
 due-bare true q e h = h
 due-bare false q e h = none-bare q
 
-settled-bare :
+pub settled-bare :
     (m : Model) (q : ℕ) (v up : List ℕ) (g : Option Grade) → (is-leaf q || not (isSome g)) ≡ true
     → bare-at q (settled m q v up g) ≡ true
 settled-bare m q v up g h = due-bare (due q v up g) q _ h
 
 -- and gathered entries are bare if each is
-slot-bare :
+pub slot-bare :
     (p : Path) (o : Option Entry) (es : List Slot) → bare-at (p .number) o ≡ true → bare-folders es ≡ true
     → bare-folders (slot-of p o ++ es) ≡ true
 slot-bare p None es first h = h

@@ -1,4 +1,5 @@
 pub mod Acting
+pub mod ActsKeeping
 pub mod Gathered
 pub mod Keeping
 pub mod Knowing

@@ -1,9 +1,10 @@
 -- What holds of the definitions of write, remove and choose. `laws.rt` promises each.
-use Prim.Native.Nat.{ℕ}
+use Prim.Native.Nat.{ℕ, _≤_}
 use mathlib.Core.Bool.{true, false, cond}
 use mathlib.Core.List.{List}
 use mathlib.Core.Path.{_≡_}
 use lib.Dec.{eqb}
+use lib.ListN.{length}
 use Rattle.std.specs.declared.option.Option.{Option}
 use Rattle.std.specs.declared.option.Option.the-variants.{Some, None}
 use Rattle.paths.specs.Steps.{levels, is-number, covers}
@@ -47,3 +48,14 @@ ChoiceSettles =
     → Holds (with-entries b (after-choice a b p g)) q
     (cond (eqb (p .number) q) (own b (greater (vector-at a q) (vector-at b q))) (vector-at b q))
     (cond (eqb (p .number) q) g (grade-at b q))
+
+-- a removal or a choice that is not refused leaves a lawful store; a removal never needs room
+pub record ActsKeep (m : Model) : Type 0 where
+  pub removal : (p : ℕ) → Lawful (with-entries m (after-removal m p (m .entries)))
+  pub no-more : (p : ℕ) → length (after-removal m p (m .entries)) ≤ length (m .entries)
+  pub choice :
+      (a : Model) (p : Path) (g : Option Grade) → is-leaf (p .number) ≡ true
+      → length (after-choice a m p g) ≤ m .capacity → Lawful (with-entries m (after-choice a m p g))
+
+abbrev pub ActsKeepLawful : Type 0
+ActsKeepLawful = (m : Model) → Lawful m → ActsKeep m

@@ -1,6 +1,6 @@
 // What holds of the leaf rule for all sides, and of the definitions of the calls for all stores. Nothing runs here: each
 // contract is the law.
-ghost use Rattle.engine.specs.ActLaws.{WriteSettles, RemoveSettles, ChoiceSettles};
+ghost use Rattle.engine.specs.ActLaws.{WriteSettles, RemoveSettles, ChoiceSettles, ActsKeepLawful};
 ghost use Rattle.engine.specs.LeafLaws.{WorkedLeaves, Symmetric, NotOverKnown, OneStamp};
 ghost use Rattle.engine.specs.SyncLaws.{PassedIsKnown, SyncSettles, SyncKeepsLawful};
 
@@ -52,4 +52,9 @@ pub fn remove_settles()
 // A choice changes grade and vector at its leaf, and nothing elsewhere.
 pub fn choice_settles()
     ensures { λ _. ⌜ ChoiceSettles ⌝ }
+{}
+
+// A removal and a choice that is not refused leave a lawful store, and a removal never needs room.
+pub fn acts_keep_lawful()
+    ensures { λ _. ⌜ ActsKeepLawful ⌝ }
 {}

@@ -21,7 +21,7 @@ use Rattle.stores.specs.declared.entry.Slot.{Slot}
 abbrev pub is-bare : Slot → Bool
 is-bare s = is-leaf (key s) || not (isSome (s .entry .grade))
 
-bare-put : (es : List Slot) (s : Slot) → bare-folders es ≡ true → is-bare s ≡ true → bare-folders (put es s) ≡ true
+pub bare-put : (es : List Slot) (s : Slot) → bare-folders es ≡ true → is-bare s ≡ true → bare-folders (put es s) ≡ true
 bare-put [] s h b = and-from (is-bare s) true b refl
 bare-put (t ∷ es) s h b =
     let (first, rest) = and-parts (is-bare t) (bare-folders es) h in
@@ -29,7 +29,7 @@ bare-put (t ∷ es) s h b =
     (λ _. and-from (is-bare s) (bare-folders es) b rest)
     (λ _. and-from (is-bare t) (bare-folders (put es s)) first (bare-put es s rest b))
 
-bare-drop : (es : List Slot) (p : ℕ) → bare-folders es ≡ true → bare-folders (drop es p) ≡ true
+pub bare-drop : (es : List Slot) (p : ℕ) → bare-folders es ≡ true → bare-folders (drop es p) ≡ true
 bare-drop [] p h = refl
 bare-drop (t ∷ es) p h =
     let (first, rest) = and-parts (is-bare t) (bare-folders es) h in
