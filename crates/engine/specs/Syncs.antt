@@ -142,3 +142,8 @@ Syncs a b p work report (Err f) after = (sync-refusal a b p work report ≡ Some
 abbrev pub report-after : Model → Model → Path → Result Tally Fault → List Reported → List Reported
 report-after a b p (Ok tally) places = conflicts-of a b p ++ drop (length (conflicts-of a b p)) places
 report-after a b p (Err f) places = places
+
+-- the places of the work list: open after a sync that is done, and as before after one that is refused
+abbrev pub WorkAfter : Result Tally Fault → List Slot → List Slot → Type 0
+WorkAfter (Ok tally) before after = length after ≡ length before
+WorkAfter (Err f) before after = after ≡ before

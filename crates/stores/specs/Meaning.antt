@@ -1,5 +1,5 @@
 -- What a store means: a panel number, a clock, a capacity, a height and its entries in path order.
-use Prim.Native.Nat.{ℕ, _+_, _≤_}
+use Prim.Native.Nat.{ℕ, _+_, _≤_, min}
 use mathlib.Core.Bool.{Bool, true, false, cond, _&&_, _||_, not}
 use mathlib.Core.List.{List, [], _∷_}
 use mathlib.Core.Path.{_≡_}
@@ -27,6 +27,10 @@ pub record Model : Type 0 where
   pub capacity : ℕ
   pub height : ℕ
   pub entries : List Slot
+
+-- the height of a layer over a store; 255 stands for 255 or more
+abbrev pub layered : ℕ → ℕ
+layered height = min (height + 1) 255
 
 abbrev pub is-leaf : ℕ → Bool
 is-leaf p = eqb (depth levels p) levels

@@ -2,6 +2,7 @@
 
 pub mod entry;
 pub mod faults;
+pub mod height;
 pub mod laws;
 pub mod making;
 pub mod search;
