@@ -1,4 +1,6 @@
 // The causal history of a run of calls, and the law by which it tells what every panel holds.
+#![tactic(auto)]
+
 ghost use Rattle.history.specs.Law.{StoresFollowHistory};
 
 pub mod panels;

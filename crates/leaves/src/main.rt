@@ -1,4 +1,6 @@
 // Decides, for a list of leaves, what a sync from A onto B would do at each.
+#![tactic(auto)]
+
 mod answer;
 mod line;
 mod tally;

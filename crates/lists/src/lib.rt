@@ -1,4 +1,6 @@
 // A list that is filled from the front of a slice which the caller lends. Places behind those it fills stay as they are.
+#![tactic(auto)]
+
 ghost use Rattle.std.specs.Prelude.{◌≡◌, ◌+◌, ◌-◌, ◌<◌, ◌≤◌, ◌&&◌, List, length, if◌then◌else◌, MatchBool, nat_le, nat_lt, slice_set};
 ghost use Rattle.lists.specs.Front.{Inserts, Removes};
 

@@ -1,4 +1,5 @@
 // Paths, stamps, grades and version vectors: values that cannot be out of range, and the refusals of every call.
+#![tactic(auto)]
 
 pub mod fault;
 pub mod grade;

@@ -1,4 +1,5 @@
 // The rules of the synchroniser: the leaf rule in code, and by specs/ what each call answers and leaves.
+#![tactic(auto)]
 
 pub mod answers;
 pub mod laws;

@@ -1,4 +1,5 @@
 // Stores: what a panel keeps of its tree, by one meaning for every make of store.
+#![tactic(auto)]
 
 pub mod entry;
 pub mod faults;

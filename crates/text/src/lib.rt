@@ -1,4 +1,6 @@
 // Reading numbers and fields from bytes.
+#![tactic(auto)]
+
 ghost use Rattle.std.specs.Prelude.{◌≡◌};
 ghost use Rattle.std.specs.Option.{option_map};
 ghost use Rattle.text.specs.Fields.{before_first, after_first, Marked};

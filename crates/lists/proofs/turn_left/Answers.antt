@@ -3,5 +3,5 @@ use Rattle.lists.proofs.turn_left.Goals as goal
 
 pub returns : goal.returns
 returns g c =
-    turned_left c.args.slots.now c.rotate-left.new.self c.args.last c.args.i c.requires.0 c.requires.1
-    c.rotate-left.ensures.after
+    turned_left c.args.slots.now c.rotate_left.new.self c.args.last c.args.i c.requires.0 c.requires.1
+    c.rotate_left.ensures.after

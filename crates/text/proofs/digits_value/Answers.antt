@@ -10,7 +10,7 @@ returns-then-digit-lt48 c =
 
 pub loop-digit-preserved : goal.loop-digit-preserved
 loop-digit-preserved c =
-    reading_more c.args.text.now c.loop-digit.digit-index c.loop-digit.number c.saturating-add-number.result
+    reading_more c.args.text.now c.loop-digit.digit-index c.loop-digit.number c.saturating_add-number.result
     (omega arith) (omega arith) (omega arith) (omega arith) c.loop-digit.invariant
 
 pub returns : goal.returns

@@ -1,4 +1,4 @@
 use Rattle.paths.proofs.notation.+steps_number.Given as goal
 
-abbrev pub decreases-steps-number : goal.decreases-steps-number
-decreases-steps-number l = l.n
+abbrev pub decreases-steps_number : goal.decreases-steps_number
+decreases-steps_number l = l.n

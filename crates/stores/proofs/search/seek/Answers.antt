@@ -7,12 +7,12 @@ use Rattle.stores.proofs.search.seek.Goals as goal
 pub returns-then-i-slots : goal.returns-then-i-slots
 returns-then-i-slots c =
     let end = place_le c.args.slots.now c.args.path.number in
-    let at = c.lower-bound-i.ensures in
+    let at = c.lower_bound-i.ensures in
     (at, omega arith, lookup_past c.args.slots.now c.args.path.number (omega arith))
 
 pub returns-then-slot-path : goal.returns-then-slot-path
 returns-then-slot-path c =
-    let at = c.lower-bound-i.ensures in
+    let at = c.lower_bound-i.ensures in
     let is = c.index-slots-i.is in (
       at,
       omega arith,
@@ -22,5 +22,5 @@ returns-then-slot-path c =
 
 pub returns-else-slot-path : goal.returns-else-slot-path
 returns-else-slot-path c =
-    let at = c.lower-bound-i.ensures in
+    let at = c.lower_bound-i.ensures in
     (at, omega arith, (told_at c.requires at (omega arith) c.index-slots-i.is).miss c.if-slot-path.false)

@@ -23,8 +23,8 @@ module _ (p q : Path) (gives : Some q.number ≡ cond (eqb p.number 0) None (Som
   nearest-parent : (es : List Slot) → lookup es p.number ≡ None → nearest es p.number ≡ nearest es q.number
   nearest-parent es none = nearest_above es p.number (path-lawful p) none ∙ ap (nearest es) told.1
 
-pub nearest-vector-requires : goal.nearest-vector-requires
-nearest-vector-requires t c =
+pub nearest_vector-requires : goal.nearest_vector-requires
+nearest_vector-requires t c =
     let less = falls c.args.path c.in-Some-parent.above c.in-Some-parent.ensures in
     (omega arith, (c.requires.ordered, c.requires.rooted))
 
@@ -35,7 +35,7 @@ returns-in-Some t c =
 
 pub returns-in-Some-parent : goal.returns-in-Some-parent
 returns-in-Some-parent t c =
-    c.nearest-vector.ensures
+    c.nearest_vector.ensures
     ∙ sym
     (nearest-parent c.args.path c.in-Some-parent.above c.in-Some-parent.ensures c.args.slots.now
     (sym c.in-None.ensures))

@@ -1,5 +1,5 @@
 use Rattle.stores.proofs.spans.+nearest_vector.Given as goal
 
 -- a parent comes before its path
-abbrev pub decreases-nearest-vector : goal.decreases-nearest-vector
-decreases-nearest-vector l = l.path.number
+abbrev pub decreases-nearest_vector : goal.decreases-nearest_vector
+decreases-nearest_vector l = l.path.number

@@ -5,8 +5,8 @@ use Rattle.stores.proofs.spans.bounds_of.Goals as goal
 
 pub loop-i-init : goal.loop-i-init
 loop-i-init c =
-    let at = c.lower-bound-i.ensures in
-    let is = c.nearest-vector-nearest.ensures in (scan_begins at is, scan_begins at is)
+    let at = c.lower_bound-i.ensures in
+    let is = c.nearest_vector-nearest.ensures in (scan_begins at is, scan_begins at is)
 
 pub loop-i-preserved : goal.loop-i-preserved
 loop-i-preserved c =

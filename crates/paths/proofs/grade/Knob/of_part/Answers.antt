@@ -3,11 +3,11 @@ use Rattle.std.proofs.lemmas.Int.{ints}
 use Rattle.paths.specs.Ranges.{is_knob}
 use Rattle.paths.proofs.grade.Knob.of_part.Goals as goal
 
-pub overflow-cast-result : goal.overflow-cast-result
-overflow-cast-result c = search (arith, ints)
+pub overflow_cast-result : goal.overflow_cast-result
+overflow_cast-result c = search (arith, ints)
 
-pub invariant-of-result : goal.invariant-of-result
-invariant-of-result c = (omega (arith, ints), (omega (arith, ints), tt))
+pub invariant_of-result : goal.invariant_of-result
+invariant_of-result c = record { low = omega (arith, ints); high = omega (arith, ints) }
 
 pub returns-then-value-ltminus1000 : goal.returns-then-value-ltminus1000
 unfolding is_knob

@@ -8,13 +8,13 @@ pub returns : goal.returns
 returns c =
     let model =
     ap (with_entries (blank c.args.number c.args.capacity))
-    (ap (take 1) c.write-root.ensures ∙ first_only c.args.slots.now root_slot (omega arith)) in
+    (ap (take 1) c.write_root.ensures ∙ first_only c.args.slots.now root_slot (omega arith)) in
     record {
       model = model;
       sound =
           sound_as _ _ model
           (lawful-blank c.args.number c.args.capacity (omega arith) (omega arith)) (omega arith)
           (omega arith);
-      slots = c.write-root.ensures;
+      slots = c.write_root.ensures;
       same = search rules;
     }

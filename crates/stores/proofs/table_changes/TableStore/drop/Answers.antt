@@ -6,19 +6,19 @@ use Rattle.stores.specs.Meaning.{with_entries}
 use Rattle.stores.specs.Tables.{table_model}
 use Rattle.stores.proofs.table_changes.TableStore.drop.Goals as goal
 
-pub returns-in-default : goal.returns-in-default
-returns-in-default c =
+pub returns-in_default : goal.returns-in_default
+returns-in_default c =
     let other = ne_eqb c.args.path.number 0 c.if-path-eq0.false in
-    let none = not_gone _ c.args.self.now.len c.in-default.ensures.answer in
+    let none = not_gone _ c.args.self.now.len c.in_default.ensures.answer in
     let after =
     ap (with_entries (table_model c.args.self.now))
-    (c.in-default.ensures.held ∙ sym (cond-false _ _ _ other)) in
+    (c.in_default.ensures.held ∙ sym (cond-false _ _ _ other)) in
     record {
       answer = sym (ap₂ (λ a b. not a && b) other none);
       after = after;
       sound = sound_as _ _ after (lawful-drop _ c.args.path.number c.requires.lawful) c.requires.filled (omega arith);
       kept =
-          record { same = search rules; behind = behind-dropped c.args.self.now c.args.path other c.in-default.ensures.behind };
+          record { same = search rules; behind = behind-dropped c.args.self.now c.args.path other c.in_default.ensures.behind };
     }
 
 pub returns : goal.returns

@@ -20,7 +20,7 @@ returns c =
     let after =
     ap (with_entries (table_model c.args.self.now))
     (c.in-Some.ensures.held
-    ∙ ap (λ (e : Entry). put es (record { path = c.args.path; entry = e })) c.stored-at.ensures
+    ∙ ap (λ (e : Entry). put es (record { path = c.args.path; entry = e })) c.stored_at.ensures
     ∙ sym (cond-false _ _ _ full)) in
     let law = subst Lawful (sym after) (lawful-put _ c.args.path c.args.entry c.requires.lawful) in
     record {
