@@ -1,10 +1,10 @@
 -- One panel at one leaf makes an act: what it has then.
-use Rattle.std.proofs.Common.{◌≡◌, ℕ, ◌⊎◌, List, [], ◌∷◌, ◌++◌, Some, None, Option, sym, refl, ap, ◌∙◌, subst, inl, inr}
+use Rattle.std.proofs.Common.{◌≡◌, ◌⊎◌, List, [], ◌∷◌, Some, Option, sym, refl, ap, ◌∙◌, subst, inl, inr}
 use Rattle.paths.specs.declared.parts.GradeParts.{GradeParts}
 use Rattle.paths.specs.declared.parts.StampParts.{StampParts}
 use Rattle.history.specs.History.{Act, stamps, with_act}
 use Rattle.history.proofs.Reaching.{In, Reached, Overruled, in_front, in_behind, in_either, in_stamps, stamps_in, once-both}
-use Rattle.history.proofs.Sides.{Born, EndsBy, Ended, Formed, Held}
+use Rattle.history.proofs.Sides.{Born, EndsBy, Formed, Held}
 
 -- the act of the stamp s, which is new, sets g and overrules the acts xs
 module _ (xs : List Act) (s : StampParts) (g : Option GradeParts) (f : Formed xs) (new : Reached s xs → ⊥) where

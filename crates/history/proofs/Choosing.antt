@@ -1,23 +1,22 @@
 -- What a panel knows and holds at one leaf after a choice that was accepted.
-use Rattle.std.proofs.Common.{◌≡◌, ℕ, ◌+◌, ◌≤◌, Bool, true, false, cond, not, ◌&&◌, ◌||◌, eqb, List, [], ◌∷◌, length, is_some, Some, None, Ok, Option, sym, refl, ap, ◌∙◌, subst, ap₂, arith}
+use Rattle.std.proofs.Common.{◌≡◌, ℕ, ◌+◌, ◌≤◌, Bool, true, false, cond, not, ◌&&◌, ◌||◌, eqb, List, length, is_some, Some, None, Ok, Option, sym, refl, ap, ◌∙◌, subst, arith}
 use Rattle.std.specs.Option.{option_map}
 use Rattle.std.proofs.lemmas.Bool.{and_parts, both_ways, not-false, ne_eqb, false≢true}
 use Rattle.paths.specs.Parts.{grade_parts, knobs_parts}
 use Rattle.paths.specs.Vectors.{greater, place, same_places}
 use Rattle.paths.specs.declared.grade.Grade.{Grade}
 use Rattle.paths.specs.declared.parts.GradeParts.{GradeParts}
-use Rattle.paths.specs.declared.parts.KnobsParts.{KnobsParts}
 use Rattle.paths.specs.declared.path.Path.{Path}
 use Rattle.paths.specs.Steps.{levels, parent}
 use Rattle.stores.proofs.Entries.{put_count, drop-count}
-use Rattle.stores.specs.Meaning.{Model, Lawful, is_leaf, is_full, at_last, bare_folders, with_entries}
-use Rattle.stores.specs.Slots.{key, lookup, put, drop}
+use Rattle.stores.specs.Meaning.{Model, Lawful, is_leaf, is_full, at_last}
+use Rattle.stores.specs.Slots.{lookup, put}
 use Rattle.stores.specs.declared.entry.Entry.{Entry}
 use Rattle.stores.specs.declared.entry.Slot.{Slot}
 use Rattle.rules.proofs.Acting.{choice_settles}
 use Rattle.rules.proofs.ActsKeeping.{acts_keep_lawful}
 use Rattle.rules.proofs.Keeping.{lookup-bare}
-use Rattle.rules.specs.Acts.{filled, next_stamp}
+use Rattle.rules.specs.Acts.{next_stamp}
 use Rattle.rules.specs.Conflicts.{
   agree,
   stamp_at,
@@ -30,7 +29,7 @@ use Rattle.rules.specs.Conflicts.{
   chosen_knobs,
   Chooses,
 }
-use Rattle.rules.specs.Knowledge.{own, vector_at, grade_of, grade_at, outcome_at, is_conflict, due, settled}
+use Rattle.rules.specs.Knowledge.{own, vector_at, grade_at, outcome_at, is_conflict, due, settled}
 use Rattle.rules.specs.LeafRule.{version, outcome}
 use Rattle.rules.specs.declared.answers.Choice.{Choice}
 use Rattle.rules.specs.declared.answers.Choice.TheVariants.{Ours, Theirs, Third}

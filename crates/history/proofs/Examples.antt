@@ -1,7 +1,6 @@
 -- Short runs, computed: what the stores come to by the definitions of the calls, and that the history says the same.
-use Rattle.std.proofs.Common.{◌≡◌, ℕ, ◌+◌, Bool, true, false, T, leb, List, [], ◌∷◌, pos, Some, None, Option, refl, lit≤}
+use Rattle.std.proofs.Common.{◌≡◌, ℕ, true, false, T, leb, List, [], ◌∷◌, pos, Some, None, Option, refl, lit≤}
 use lib.Signed.{le_z_yes}
-use Rattle.paths.specs.Parts.{grade_parts}
 use Rattle.paths.specs.Vectors.{with_place}
 use Rattle.paths.specs.declared.grade.Grade.{Grade}
 use Rattle.paths.specs.declared.grade.Knob.{Knob}
@@ -16,28 +15,11 @@ use Rattle.rules.specs.Acts.{after_removal}
 use Rattle.rules.specs.Conflicts.{after_choice}
 use Rattle.rules.specs.Knowledge.{vector_at, outcome_at}
 use Rattle.rules.specs.Syncs.{passed, below_passed, touched, leaf_outcome, vector_after, entry_after, entries_after}
-use Rattle.rules.specs.declared.answers.Choice.{Choice}
-use Rattle.rules.specs.declared.answers.Choice.TheVariants.{Ours, Theirs}
+use Rattle.rules.specs.declared.answers.Choice.TheVariants.{Theirs}
 use Rattle.rules.specs.declared.answers.Conflict.{Conflict}
 use Rattle.rules.specs.declared.leaf.Kind.TheVariants.{Tangled, RemovedAtSource}
-use Rattle.rules.specs.declared.leaf.Outcome.TheVariants.{Kept, Taken, Removed, Conflict as InConflict}
-use Rattle.history.specs.History.{
-  Act,
-  Call,
-  write,
-  remove,
-  sync,
-  choose,
-  Event,
-  history,
-  reached,
-  overruled,
-  standing,
-  side,
-  arrived,
-  differ,
-  prevails,
-}
+use Rattle.rules.specs.declared.leaf.Outcome.TheVariants.{Taken, Removed, Conflict as InConflict}
+use Rattle.history.specs.History.{Act, Call, write, remove, sync, choose, Event, history, reached, overruled, standing, side, arrived, prevails}
 use Rattle.history.specs.Law.{held}
 
 abbrev leaf : Path

@@ -1,5 +1,5 @@
 -- Two panels at one leaf: what the one's acts leave where the other's arrive.
-use Rattle.std.proofs.Common.{◌≡◌, ℕ, Bool, true, false, cond, not, ◌&&◌, ◌||◌, ◌⊎◌, List, [], ◌∷◌, ◌++◌, Some, None, Option, sym, refl, ap, ◌∙◌, subst, ap₂, inl, inr, arith}
+use Rattle.std.proofs.Common.{◌≡◌, Bool, true, false, not, ◌&&◌, ◌⊎◌, List, Some, None, Option, sym, refl, ap, ◌∙◌, subst, ap₂, inl, inr}
 use Rattle.std.proofs.lemmas.Bool.{and_parts, and_from, both_ways, not-true, not-false, or_cases, or_left, or_right, false≢true, true≢false}
 use Rattle.paths.specs.declared.parts.GradeParts.{GradeParts}
 use Rattle.paths.specs.declared.parts.StampParts.{StampParts}
@@ -22,7 +22,7 @@ use Rattle.history.proofs.Reaching.{
   not_overruled as not-overruled-from,
   false_from,
 }
-use Rattle.history.proofs.Sides.{Born, EndsBy, Ended, Formed, Held}
+use Rattle.history.proofs.Sides.{Born, Ended, Formed, Held}
 
 pub union_swapped : (zs xs ys : List Act) → Union zs xs ys → Union zs ys xs
 union_swapped zs xs ys u =

@@ -1,7 +1,6 @@
 -- One leaf on all panels: an act has reached a panel exactly if its time is at most the panel's place for it.
-use Rattle.std.proofs.Common.{◌≡◌, ℕ, ◌+◌, ◌<◌, ◌≤◌, max, Bool, true, false, leb, ◌⊎◌, List, [], ◌∷◌, ◌++◌, Option, sym, refl, ap, ◌∙◌, subst, inl, inr, arith}
+use Rattle.std.proofs.Common.{◌≡◌, ℕ, ◌+◌, ◌<◌, ◌≤◌, max, Bool, true, false, leb, ◌⊎◌, List, ◌++◌, sym, refl, ap, ◌∙◌, subst, inl, inr, arith}
 use Rattle.std.proofs.lemmas.Bool.{both_ways, cases_eq, cases_lt, le-leb, leb-true}
-use Rattle.paths.specs.declared.parts.GradeParts.{GradeParts}
 use Rattle.paths.specs.declared.parts.StampParts.{StampParts}
 use Rattle.history.specs.History.{Act, reached, arrived}
 use Rattle.history.proofs.Reaching.{
@@ -19,7 +18,7 @@ use Rattle.history.proofs.Reaching.{
   arrived-once,
 }
 use Rattle.history.proofs.Joining.{formed_union}
-use Rattle.history.proofs.Sides.{Formed, Held}
+use Rattle.history.proofs.Sides.{Formed}
 
 -- has: the panels that take part. N: the acts that reached each. V: the places of each one's vector
 pub record Known (has : ℕ → Bool) (N : ℕ → List Act) (V : ℕ → ℕ → ℕ) : Type 0 where

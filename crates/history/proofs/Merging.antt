@@ -1,32 +1,18 @@
 -- What a sync makes of one leaf: the leaf rule decides it, or a folder above it was passed by, or it is not covered.
-use Rattle.std.proofs.Common.{◌≡◌, ℕ, zero, suc, Bool, true, false, cond, not, ◌&&◌, ◌||◌, eqb, ◌⊎◌, List, [], ◌∷◌, ◌++◌, is_some, Some, None, Option, sym, refl, ap, ◌∙◌, subst, ap₂, inl, inr, arith}
-use Rattle.std.proofs.lemmas.Bool.{and_parts, and_from, and_left, and_right, cond-true, cond-false, cases_Bool, eqb-true, both_ways}
+use Rattle.std.proofs.Common.{◌≡◌, ℕ, zero, suc, Bool, true, false, cond, not, ◌&&◌, ◌||◌, eqb, List, [], ◌∷◌, ◌++◌, is_some, Some, None, Option, sym, refl, ap, ◌∙◌, subst, arith}
+use Rattle.std.proofs.lemmas.Bool.{and_parts, and_from, and_left, cond-true, cond-false, eqb-true, both_ways}
 use Rattle.paths.proofs.Levels.{covering, parents}
 use Rattle.paths.specs.Steps.{levels, is_number, covers, parent}
 use Rattle.paths.specs.Vectors.{greater, at_most, same_places}
 use Rattle.paths.specs.declared.path.Path.{Path}
 use Rattle.stores.specs.Climb.{first_of, climb, climb_by}
 use Rattle.stores.specs.Meaning.{Model, Lawful, is_leaf, with_entries}
-use Rattle.stores.specs.Slots.{lookup}
 use Rattle.rules.proofs.Acting.{settled-grade}
 use Rattle.rules.proofs.Gathered.{has, no_candidate}
 use Rattle.rules.proofs.Passing.{passed_is_known}
 use Rattle.rules.proofs.Settling.{leaf_empty, entry_touched, entry_kept, sync_settles}
 use Rattle.rules.specs.Knowledge.{own, vector_at, grade_of, grade_at, outcome_at, is_conflict}
-use Rattle.rules.specs.Syncs.{
-  grade_after,
-  passed,
-  below_passed,
-  touched,
-  leaf_outcome,
-  vector_after,
-  entry_after,
-  candidates,
-  entries_after,
-  report_of,
-  reports,
-  conflicts_of,
-}
+use Rattle.rules.specs.Syncs.{grade_after, passed, below_passed, touched, leaf_outcome, vector_after, candidates, entries_after, report_of, reports, conflicts_of}
 use Rattle.rules.specs.declared.answers.Reported.{Reported}
 use Rattle.rules.specs.declared.leaf.Outcome.{Outcome}
 use Rattle.rules.specs.declared.leaf.Outcome.TheVariants.{Kept, Taken, Removed, Conflict}

@@ -1,7 +1,7 @@
 -- The leaf rule decides as the history does: where a side prevails it stays or is taken, and else there is a conflict.
-use Rattle.std.proofs.Common.{◌≡◌, ℕ, Bool, true, false, cond, not, ◌&&◌, ◌||◌, ◌⊎◌, List, Some, None, Option, sym, refl, ap, ◌∙◌, subst, ap₂, inl, inr, arith}
+use Rattle.std.proofs.Common.{◌≡◌, ℕ, Bool, true, false, cond, not, ◌&&◌, ◌||◌, List, Some, None, Option, sym, refl, ap, ◌∙◌, subst, ap₂, arith}
 use Rattle.std.specs.Option.{option_map}
-use Rattle.std.proofs.lemmas.Bool.{both_ways, cond-true}
+use Rattle.std.proofs.lemmas.Bool.{both_ways}
 use Rattle.paths.specs.declared.parts.GradeParts.{GradeParts}
 use Rattle.paths.specs.declared.parts.StampParts.{StampParts}
 use Rattle.rules.specs.Knowledge.{is_conflict}
@@ -11,7 +11,7 @@ use Rattle.rules.specs.declared.leaf.Outcome.{Outcome}
 use Rattle.rules.specs.declared.leaf.Outcome.TheVariants.{Kept, Taken, Removed, Conflict}
 use Rattle.history.specs.History.{Act, reached, overruled, side, differ, prevails_over, prevails}
 use Rattle.history.specs.Law.{Settles}
-use Rattle.history.proofs.Joining.{Prevails, prevails-from, common, common-prevails, reached_overruled, not_both}
+use Rattle.history.proofs.Joining.{common, reached_overruled, not_both}
 use Rattle.history.proofs.Reaching.{Reached, Agree}
 use Rattle.history.proofs.Sides.{Formed, Held}
 

@@ -1,11 +1,11 @@
 -- What holds at every point of a run, and the promises that follow from it.
-use Rattle.std.proofs.Common.{◌≡◌, ℕ, ◌-◌, ◌≤◌, Bool, true, false, cond, not, ◌&&◌, eqb, List, [], ◌∷◌, length, is_some, Some, None, Ok, Err, Option, sym, refl, ap, ◌∙◌, subst, ap₂, inl, inr, arith}
+use Rattle.std.proofs.Common.{◌≡◌, ℕ, ◌-◌, ◌≤◌, Bool, true, false, cond, not, ◌&&◌, eqb, List, [], ◌∷◌, length, is_some, Some, None, Ok, Err, Option, sym, refl, ap, ◌∙◌, subst, inl, inr, arith}
 use Rattle.std.specs.Option.{option_map}
 use Rattle.std.proofs.lemmas.Bool.{and_parts, both_ways, cases_Bool, cases_eq, cond-true, cond-false, eq-eqb, ne_eqb, false≢true}
 use Rattle.paths.proofs.Places.{at_most_at}
 use Rattle.paths.specs.Parts.{grade_parts}
 use Rattle.paths.specs.Steps.{levels, is_number, covers}
-use Rattle.paths.specs.Vectors.{place, at_most}
+use Rattle.paths.specs.Vectors.{place}
 use Rattle.paths.specs.declared.parts.GradeParts.{GradeParts}
 use Rattle.paths.specs.declared.path.Path.{Path}
 use Rattle.stores.proofs.Bounds.{bounds}
@@ -39,14 +39,14 @@ use Rattle.history.specs.History.{
 }
 use Rattle.history.specs.Law.{held, Leaf, Follows, Settles, accepted_sync, Promises, StoresFollowHistory}
 use Rattle.history.specs.Runs.{Stores, Blank, OnlyAt, leaves_of, Does, among_panels, Step, Run}
-use Rattle.history.proofs.Joining.{common, later-prevails, not_both}
-use Rattle.history.proofs.Knowing.{Known, agree}
+use Rattle.history.proofs.Joining.{later-prevails, not_both}
+use Rattle.history.proofs.Knowing.{agree}
 use Rattle.history.proofs.Reaching.{In}
 use Rattle.history.proofs.Ruling.{Decided, disputed, same, ours, theirs, settles, differ_swapped}
 use Rattle.history.proofs.Sides.{Formed, Held, follows}
-use Rattle.history.proofs.Stepping.{Good, Sound, holds-side, write_sound, removal_sound, choice_sound}
+use Rattle.history.proofs.Stepping.{Sound, write_sound, removal_sound, choice_sound}
 use Rattle.history.proofs.Syncing.{two-panels, leaf-decided, both, sync_sound}
-use Rattle.history.proofs.Ticking.{known_at, own-place, place_with}
+use Rattle.history.proofs.Ticking.{known_at, place_with}
 
 -- a blank store
 module _ (k : ℕ) (m : Model) (blank : Blank k m) where

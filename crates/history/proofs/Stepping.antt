@@ -1,7 +1,6 @@
 -- What holds at every point of a run is kept by every act.
-use Rattle.std.proofs.Common.{◌≡◌, ℕ, ◌+◌, ◌≤◌, max, Bool, true, false, cond, not, ◌&&◌, eqb, ◌⊎◌, List, [], ◌∷◌, ◌++◌, is_some, Some, None, Ok, Option, sym, refl, ap, ◌∙◌, subst, ap₂, inl, inr, append-nil, arith}
-use Rattle.std.specs.Option.{option_map}
-use Rattle.std.proofs.lemmas.Bool.{cases_eq, cond-true, cond-false, eq-eqb, ne_eqb, eqb-true, eqb-false}
+use Rattle.std.proofs.Common.{◌≡◌, ℕ, ◌+◌, ◌≤◌, max, Bool, true, false, cond, ◌&&◌, eqb, List, [], ◌++◌, is_some, Some, None, Ok, Option, sym, refl, ap, ◌∙◌, subst, ap₂, inl, inr, append-nil, arith}
+use Rattle.std.proofs.lemmas.Bool.{cases_eq, cond-true, cond-false, eq-eqb, ne_eqb, eqb-true}
 use Rattle.paths.specs.Steps.{levels, covers}
 use Rattle.paths.specs.Vectors.{greater, place}
 use Rattle.paths.specs.declared.parts.GradeParts.{GradeParts}
@@ -9,7 +8,7 @@ use Rattle.paths.specs.declared.parts.KnobsParts.{KnobsParts}
 use Rattle.paths.specs.declared.parts.SettingParts.{SettingParts}
 use Rattle.paths.specs.declared.parts.StampParts.{StampParts}
 use Rattle.paths.specs.declared.path.Path.{Path}
-use Rattle.stores.specs.Meaning.{Model, Lawful}
+use Rattle.stores.specs.Meaning.{Lawful}
 use Rattle.rules.specs.Acts.{next_stamp, Writes, Removes}
 use Rattle.rules.specs.Conflicts.{Chooses}
 use Rattle.rules.specs.Knowledge.{own, vector_at}

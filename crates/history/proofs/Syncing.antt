@@ -1,15 +1,15 @@
 -- What holds at every point of a run is kept by every sync, and a sync decides each leaf as the law says.
-use Rattle.std.proofs.Common.{◌≡◌, ℕ, ◌-◌, ◌≤◌, max, Bool, true, false, cond, not, ◌&&◌, eqb, ltb, ◌⊎◌, List, length, Some, None, Ok, Option, sym, refl, ap, ◌∙◌, subst, ap₂, inl, inr, arith}
+use Rattle.std.proofs.Common.{◌≡◌, ℕ, ◌-◌, ◌≤◌, max, Bool, true, false, cond, not, ◌&&◌, eqb, ltb, List, length, Some, None, Ok, Option, sym, refl, ap, ◌∙◌, subst, ap₂, inl, inr, arith}
 use Rattle.std.specs.Option.{option_map}
 use Rattle.std.proofs.lemmas.Bool.{both_ways, cases_Bool, cases_eq, cond-true, cond-false, eq-eqb, eqb-false, ltb-false, ne_eqb}
 use Rattle.paths.proofs.Places.{at_most_at}
 use Rattle.paths.specs.Parts.{grade_parts}
 use Rattle.paths.specs.Steps.{levels, covers}
-use Rattle.paths.specs.Vectors.{greater, place, same_places}
+use Rattle.paths.specs.Vectors.{greater, same_places}
 use Rattle.paths.specs.declared.grade.Grade.{Grade}
 use Rattle.paths.specs.declared.parts.GradeParts.{GradeParts}
 use Rattle.paths.specs.declared.path.Path.{Path}
-use Rattle.stores.specs.Meaning.{Model, Lawful, with_entries}
+use Rattle.stores.specs.Meaning.{Lawful}
 use Rattle.rules.proofs.Keeping.{sync_keeps_lawful}
 use Rattle.rules.specs.Knowledge.{own, vector_at, grade_at, outcome_at, is_conflict}
 use Rattle.rules.specs.LeafRule.{version, outcome}
@@ -23,7 +23,7 @@ use Rattle.history.specs.Runs.{Stores, OnlyAt, leaves_of}
 use Rattle.history.proofs.Joining.{union_swapped, prevailing, prevails-from, common, common-prevails, later-prevails}
 use Rattle.history.proofs.Knowing.{Known, agree, known_reached, all_arrived, join_grows}
 use Rattle.history.proofs.Merging.{Merged, judged, passed_by, merged, apart}
-use Rattle.history.proofs.Reaching.{In, Reached, Agree, Union, arrived_union, none_arrive}
+use Rattle.history.proofs.Reaching.{In, Agree, Union, arrived_union, none_arrive}
 use Rattle.history.proofs.Ruling.{version_of, parts_after, Decided, disputed, same, ours, theirs, decided}
 use Rattle.history.proofs.Sides.{Formed, Held}
 use Rattle.history.proofs.Stepping.{Good, Sound, good_grown}

@@ -1,10 +1,10 @@
 -- What a panel knows and holds at one leaf after an act that was accepted.
-use Rattle.std.proofs.Common.{◌≡◌, ℕ, ◌+◌, ◌-◌, ◌≤◌, max, Bool, true, false, cond, not, ◌&&◌, ◌||◌, eqb, ltb, List, length, get_or, is_some, Some, None, Ok, Option, unwrap_or, sym, refl, ap, ◌∙◌, subst, ap₂, arith}
+use Rattle.std.proofs.Common.{◌≡◌, ℕ, ◌+◌, ◌-◌, ◌≤◌, max, Bool, true, false, cond, not, eqb, List, Some, None, Ok, Option, unwrap_or, sym, refl, ap, ◌∙◌, subst, arith}
 use Rattle.std.specs.Option.{option_map}
-use Rattle.std.proofs.lemmas.Bool.{and_parts, cond-true, cond-false, eq-eqb, ne_eqb, not-false, not-true}
+use Rattle.std.proofs.lemmas.Bool.{and_parts, cond-true, cond-false, eq-eqb, ne_eqb, not-false}
 use Rattle.paths.proofs.Places.{at_most_at, joined_at, put_at-at}
-use Rattle.paths.specs.Parts.{stamp_parts, grade_parts, knobs_parts, lawful_setting}
-use Rattle.paths.specs.Steps.{levels, is_number, covers}
+use Rattle.paths.specs.Parts.{stamp_parts, grade_parts, lawful_setting}
+use Rattle.paths.specs.Steps.{levels, covers}
 use Rattle.paths.specs.Vectors.{place, with_place, greater, at_most, same_places}
 use Rattle.paths.specs.declared.fault.Fault.{Fault}
 use Rattle.paths.specs.declared.grade.Grade.{Grade}
@@ -13,18 +13,13 @@ use Rattle.paths.specs.declared.parts.SettingParts.{SettingParts}
 use Rattle.paths.specs.declared.path.Path.{Path}
 use Rattle.stores.proofs.Kept.{lawful-put, lawful_tick}
 use Rattle.stores.specs.Climb.{first_of}
-use Rattle.stores.specs.Meaning.{Model, Lawful, is_leaf, is_full, at_last, nearest, with_entries, put_model, tick_model}
-use Rattle.rules.proofs.Acting.{write_settles, remove_settles, choice_settles}
+use Rattle.stores.specs.Meaning.{Model, Lawful, is_leaf, is_full, at_last, nearest, tick_model}
+use Rattle.rules.proofs.Acting.{write_settles, remove_settles}
 use Rattle.rules.proofs.ActsKeeping.{acts_keep_lawful}
-use Rattle.rules.specs.ActLaws.{Holds}
-use Rattle.rules.specs.Acts.{filled, next_stamp, written, write_refusal, remove_refusal, after_removal, removed_count, store_fault, Writes, Removes}
-use Rattle.rules.specs.Conflicts.{after_choice, bad_knobs, chosen, chosen_knobs, choose_refusal, due_after_choice, still_stands, Chooses}
+use Rattle.rules.specs.Acts.{filled, next_stamp, written, removed_count, Writes, Removes}
 use Rattle.rules.specs.Knowledge.{own, vector_at, grade_at, refuse_if}
-use Rattle.rules.specs.declared.answers.Choice.{Choice}
-use Rattle.rules.specs.declared.answers.Choice.TheVariants.{Ours, Theirs, Third}
-use Rattle.rules.specs.declared.answers.Conflict.{Conflict}
 use Rattle.rules.specs.declared.answers.Removal.{Removal}
-use Rattle.history.specs.History.{written_grade, picked, chosen_grade}
+use Rattle.history.specs.History.{written_grade}
 use Rattle.history.specs.Law.{held, Leaf}
 
 -- up to which time the acts of panel k are known at a path

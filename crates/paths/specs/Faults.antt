@@ -1,10 +1,8 @@
 -- The refusals: one definition gives the number and the values of each.
 use Rattle.std.specs.Prelude.{ℕ, Some, None, Option}
-use Rattle.paths.specs.declared.path.Path.{Path}
 use Rattle.paths.specs.declared.stamp.Panel.{Panel}
 use Rattle.paths.specs.declared.fault.Cause.{Cause}
 use Rattle.paths.specs.declared.fault.Cause.TheVariants.{Full, LastTime}
-use Rattle.paths.specs.declared.fault.StoreFault.{StoreFault}
 use Rattle.paths.specs.declared.fault.Site.{Site}
 use Rattle.paths.specs.declared.fault.Fault.{Fault}
 use Rattle.paths.specs.declared.fault.Fault.TheVariants.{NoPath, NoLeaf, OutOfRange, SamePanel, NothingToRemove, ShortWorkList, ShortReport, Store, NoConflict, StaleConflict, BadStore, BadJournal}

@@ -57,5 +57,5 @@ some_set k = is_some k.lift || is_some k.gamma || is_some k.gain || is_some k.co
 -- at least one knob is set, and each that is set is in range
 abbrev pub lawful_setting : SettingParts → Bool
 lawful_setting k =
-    some_set k
+    (is_some k.lift || is_some k.gamma || is_some k.gain || is_some k.contrast)
     && in_range k.lift && in_range k.gamma && in_range k.gain && in_range k.contrast

@@ -1,5 +1,5 @@
 -- What holds of paths of any number of levels n. `laws.rt` promises each.
-use Rattle.std.specs.Prelude.{◌≡◌, ℕ, Bool, true, false, cond, not, ◌&&◌, ◌||◌, List, [], ◌∷◌, ◌==◌, nat_le, nat_lt}
+use Rattle.std.specs.Prelude.{◌≡◌, ℕ, Bool, true, false, not, ◌&&◌, ◌||◌, List, [], ◌∷◌, ◌==◌, nat_le, nat_lt}
 use Rattle.paths.specs.Steps.{is_path, number, steps, is_number, covers, parent, last}
 
 -- a number of n levels and its steps tell the same

@@ -7,5 +7,5 @@ is_panel k = nat_le 1 k && nat_le k 8
 abbrev pub is_time : ℕ → Bool
 is_time t = nat_le 1 t && nat_le t 1000000
 
-unfoldable pub is_knob : ℤ → Bool
+abbrev pub is_knob : ℤ → Bool
 is_knob x = int_le (negsuc 999) x && int_le x (pos 1000)

@@ -1,5 +1,5 @@
 -- A folder that is passed by holds nothing new.
-use Rattle.std.proofs.Common.{◌≡◌, ℕ, ◌-◌, true, false, not, ◌&&◌, List, ap}
+use Rattle.std.proofs.Common.{◌≡◌, ℕ, ◌-◌, true, not, ◌&&◌, List, ap}
 use Rattle.std.proofs.lemmas.Bool.{and_parts, and_from}
 use Rattle.paths.proofs.Levels.{covering}
 use Rattle.paths.proofs.Places.{at_most_through, put_at_most}

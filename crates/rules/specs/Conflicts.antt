@@ -1,5 +1,5 @@
 -- Opening a conflict, choosing and leaving.
-use Rattle.std.specs.Prelude.{◌≡◌, ℕ, ◌+◌, Bool, true, false, cond, not, ◌&&◌, ◌||◌, List, is_some, Some, None, Ok, Err, Option, Result, ◌==◌}
+use Rattle.std.specs.Prelude.{◌≡◌, ℕ, ◌+◌, Bool, true, false, not, ◌&&◌, ◌||◌, List, is_some, Some, None, Ok, Err, Option, Result, ◌==◌}
 use Rattle.std.specs.Option.{option_map}
 use Rattle.paths.specs.Parts.{stamp_parts, knobs_parts, grade_parts, lawful_setting}
 use Rattle.paths.specs.Steps.{levels, parent}

@@ -1,5 +1,5 @@
 -- Sync from a source A onto a destination B over one path: what becomes of each path, and what the call answers.
-use Rattle.std.specs.Prelude.{◌≡◌, ℕ, suc, Bool, true, false, cond, not, ◌&&◌, List, [], ◌∷◌, ◌++◌, length, drop, is_some, Some, None, Ok, Err, Option, Result, ◌==◌, nat_lt}
+use Rattle.std.specs.Prelude.{◌≡◌, ℕ, suc, Bool, cond, not, ◌&&◌, List, [], ◌∷◌, ◌++◌, length, drop, is_some, Some, None, Ok, Err, Option, Result, ◌==◌, nat_lt}
 use Rattle.paths.specs.Steps.{levels, covers, parent}
 use Rattle.paths.specs.Vectors.{greater, at_most}
 use Rattle.paths.specs.declared.fault.Cause.TheVariants.{Full}

@@ -1,13 +1,27 @@
 -- Slots at the front of a slice: what a change of the slice does to them.
-use Rattle.std.proofs.Common.{◌≡◌, ℕ, zero, suc, ◌+◌, ◌-◌, ◌<◌, ◌≤◌, Bool, true, false, cond, not, ◌&&◌, eqb, List, [], ◌∷◌, ◌++◌, length, take, drop, set, is_some, Some, None, Ok, Err, Result, sym, refl, ap, ◌∙◌, subst, ap₂, arith}
+use Rattle.std.proofs.Common.{◌≡◌, ℕ, zero, suc, ◌+◌, ◌-◌, ◌<◌, ◌≤◌, true, false, cond, not, ◌&&◌, eqb, List, [], ◌∷◌, ◌++◌, length, take, drop, set, is_some, Some, None, Ok, Err, Option, Result, sym, refl, ap, ◌∙◌, subst, ap₂, arith}
 use Rattle.std.proofs.lemmas.List.{take-take, length-take, length-take-le, drop-take, drop-set-lt}
 use Rattle.std.proofs.lemmas.Bool.{cond-true, cond-false, ne_eqb}
+use Rattle.std.specs.Option.{unwrap_or}
 use Rattle.lists.specs.Front.{Inserts, Removes}
 use Rattle.stores.proofs.Entries.{put_count}
 use Rattle.stores.proofs.Order.{put_entered, put_new, drop_entered, dropped_entered, entered_within, place_le}
-use Rattle.stores.specs.SlotChanges.{PutFront, DropFront}
-use Rattle.stores.specs.Slots.{Sought, key, lookup, put, drop as drop-slot, dropped, rises, place}
+use Rattle.stores.specs.Slots.{Sought, key, lookup, put, drop as drop_slots, dropped, rises, place}
 use Rattle.stores.specs.declared.entry.Slot.{Slot}
+
+-- s is put among the first n, unless it is new and there are `most` already; r is the count after it
+pub record PutFront (before after : List Slot) (n most : ℕ) (s : Slot) (r : Option ℕ) : Type 0 where
+  pub answer :
+      r ≡ cond (not (is_some (lookup (take n before) (key s))) && eqb n most) None
+      (Some (length (put (take n before) s)))
+  pub held : take (unwrap_or r n) after ≡ cond (is_some r) (put (take n before) s) (take n before)
+  pub behind : drop (unwrap_or r n) after ≡ drop (unwrap_or r n) before
+
+-- the slot of q is taken out of the first n, and comes behind those left; r is the count after it, if there was one
+pub record DropFront (before after : List Slot) (n q : ℕ) (r : Option ℕ) : Type 0 where
+  pub answer : r ≡ cond (is_some (lookup (take n before) q)) (Some (n - 1)) None
+  pub held : take (unwrap_or r n) after ≡ drop_slots (take n before) q
+  pub behind : drop (unwrap_or r n) after ≡ dropped (take n before) q ++ drop n before
 
 take-set_lt : {X : Type 0} (xs : List X) (n i : ℕ) (x : X) → i < n → take n (set xs i x) ≡ set (take n xs) i x
 take-set_lt xs zero i x lt = absurd (omega arith)
@@ -15,7 +29,7 @@ take-set_lt [] (suc n) i x lt = refl
 take-set_lt (y ∷ xs) (suc n) zero x lt = refl
 take-set_lt (y ∷ xs) (suc n) (suc i) x lt = ap (λ t. y ∷ t) (take-set_lt xs n i x (omega arith))
 
-pub drop_none : (es : List Slot) (q : ℕ) → is_some (lookup es q) ≡ false → drop-slot es q ≡ es
+pub drop_none : (es : List Slot) (q : ℕ) → is_some (lookup es q) ≡ false → drop_slots es q ≡ es
 drop_none [] q h = refl
 drop_none (s ∷ es) q h = grind (arith, drop_none es q)
 
@@ -44,7 +58,7 @@ module _ (xs : List Slot) (n : ℕ) (h : rises (take n xs) ≡ true) where
 
   pub remove-held :
       (ys : List Slot) (q : ℕ) → is_some (lookup (take n xs) q) ≡ true → n - 1 + 1 ≡ n
-      → Removes xs ys (n - 1) (place (take n xs) q) → take (n - 1) ys ≡ drop-slot (take n xs) q
+      → Removes xs ys (n - 1) (place (take n xs) q) → take (n - 1) ys ≡ drop_slots (take n xs) q
   remove-held ys q found some moved =
       moved.held
       ∙ ap₂ (λ front k. front ++ drop (place (take n xs) q + 1) (take k xs))

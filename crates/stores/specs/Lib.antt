@@ -3,7 +3,6 @@ pub mod Climb
 pub mod Located
 pub mod Making
 pub mod Meaning
-pub mod SlotChanges
 pub mod Slots
 pub mod StoreLaws
 pub mod Tables

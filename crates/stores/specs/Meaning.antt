@@ -1,5 +1,5 @@
 -- What a store means: a panel number, a clock, a capacity, a height and its entries in path order.
-use Rattle.std.specs.Prelude.{◌≡◌, ℕ, ◌+◌, ◌≤◌, min, Bool, true, false, cond, not, ◌&&◌, ◌||◌, List, [], ◌∷◌, length, is_some, Some, None, Ok, Err, Option, Result, ◌==◌}
+use Rattle.std.specs.Prelude.{◌≡◌, ℕ, ◌+◌, ◌≤◌, min, Bool, true, cond, not, ◌&&◌, ◌||◌, List, [], ◌∷◌, length, is_some, Some, None, Ok, Err, Option, Result, ◌==◌}
 use Rattle.paths.specs.Steps.{levels, covers, depth}
 use Rattle.paths.specs.Vectors.{greater, lesser}
 use Rattle.paths.specs.declared.fault.Cause.TheVariants.{Full, LastTime}

@@ -1,5 +1,5 @@
 -- What holds of every store's entries. `laws.rt` promises each.
-use Rattle.std.specs.Prelude.{◌≡◌, ℕ, ◌+◌, ◌<◌, Bool, true, false, cond, ◌≢◌, List, length, is_some, Some, None, MatchOption}
+use Rattle.std.specs.Prelude.{◌≡◌, ℕ, ◌+◌, ◌<◌, true, cond, ◌≢◌, List, length, is_some, Some, None, MatchOption}
 use Rattle.paths.specs.Steps.{levels, is_number, covers}
 use Rattle.paths.specs.Vectors.{at_most}
 use Rattle.stores.specs.Meaning.{nearest, least_at, greatest_at}

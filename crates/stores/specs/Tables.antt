@@ -1,5 +1,5 @@
 -- What a table means.
-use Rattle.std.specs.Prelude.{◌≡◌, ℕ, ◌≤◌, cond, List, [], ◌++◌, length, take, drop, ◌==◌}
+use Rattle.std.specs.Prelude.{◌≡◌, ◌≤◌, cond, List, [], ◌++◌, length, take, drop, ◌==◌}
 use Rattle.stores.specs.Changes.{Change, puts, drops, ticks}
 use Rattle.stores.specs.Meaning.{Model, Lawful}
 use Rattle.stores.specs.Slots.{dropped}

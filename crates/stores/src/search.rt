@@ -1,5 +1,5 @@
 // Where a path stands among slots in path order.
-ghost use Rattle.std.specs.Prelude.{◌≡◌, true};
+ghost use Rattle.std.specs.Prelude.{◌≡◌, true, is_some, if◌then◌else◌};
 ghost use Rattle.stores.specs.Slots.{Sought, lookup, next_after, rises, place};
 
 use crate::entry::{Entry, Slot};
@@ -26,7 +26,8 @@ pub fn lower_bound(slots: &[Slot], path: Path) -> usize
 // The place of the path's slot, or the place where it would come.
 pub fn seek(slots: &[Slot], path: Path) -> Result<usize, usize>
     requires { rises slots.now ≡ true }
-    ensures { Sought slots.now path.number result }
+    ensures answer { result ≡ (if is_some (lookup slots.now path.number) then Ok (place slots.now path.number) else Err (place slots.now path.number)) }
+    ensures sought { Sought slots.now path.number result }
 {
     let i = lower_bound(slots, path);
     if i >= slots.len() {
@@ -45,7 +46,7 @@ pub fn find_slot(slots: &[Slot], path: Path) -> Option<Entry>
     ensures { result ≡ lookup slots.now path.number }
 {
     match seek(slots, path) {
-        Ok(i) => Some(slots[i].entry),
+        Ok(at) => Some(slots[at].entry),
         Err(_) => None,
     }
 }

@@ -1,4 +1,4 @@
-use Rattle.std.proofs.Common.{◌≡◌, ◌≤◌, length, take}
+use Rattle.std.proofs.Common.{◌≡◌, length, take}
 use Rattle.history.specs.Requests.{AsksAll, Continues}
 use Rattle.history.proofs.perform.run.Given as goal
 

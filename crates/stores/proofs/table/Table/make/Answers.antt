@@ -1,4 +1,4 @@
-use Rattle.std.proofs.Common.{List, take, ap, ◌∙◌, arith, rules}
+use Rattle.std.proofs.Common.{take, ap, ◌∙◌, arith, rules}
 use Rattle.stores.proofs.TableLaws.{sound_as, lawful-blank, first_only}
 use Rattle.stores.specs.Making.{blank, root_slot}
 use Rattle.stores.specs.Meaning.{with_entries}
