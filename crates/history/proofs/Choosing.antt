@@ -13,11 +13,11 @@ use Rattle.stores.specs.Meaning.{Model, Lawful, is_leaf, is_full, at_last}
 use Rattle.stores.specs.Slots.{lookup, put}
 use Rattle.stores.specs.declared.entry.Entry.{Entry}
 use Rattle.stores.specs.declared.entry.Slot.{Slot}
-use Rattle.rules.proofs.Acting.{choice_settles}
-use Rattle.rules.proofs.ActsKeeping.{acts_keep_lawful}
-use Rattle.rules.proofs.Keeping.{lookup-bare}
-use Rattle.rules.specs.Acts.{next_stamp}
-use Rattle.rules.specs.Conflicts.{
+use Rattle.engine.proofs.Acting.{choice_settles}
+use Rattle.engine.proofs.ActsKeeping.{acts_keep_lawful}
+use Rattle.engine.proofs.Keeping.{lookup-bare}
+use Rattle.engine.specs.Acts.{next_stamp}
+use Rattle.engine.specs.Conflicts.{
   agree,
   stamp_at,
   after_choice,
@@ -29,11 +29,11 @@ use Rattle.rules.specs.Conflicts.{
   chosen_knobs,
   Chooses,
 }
-use Rattle.rules.specs.Knowledge.{own, vector_at, grade_at, outcome_at, is_conflict, due, settled}
-use Rattle.rules.specs.LeafRule.{version, outcome}
-use Rattle.rules.specs.declared.answers.Choice.{Choice}
-use Rattle.rules.specs.declared.answers.Choice.TheVariants.{Ours, Theirs, Third}
-use Rattle.rules.specs.declared.answers.Conflict.{Conflict}
+use Rattle.engine.specs.Knowledge.{own, vector_at, grade_at, outcome_at, is_conflict, due, settled}
+use Rattle.engine.specs.LeafRule.{version, outcome}
+use Rattle.engine.specs.declared.answers.Choice.{Choice}
+use Rattle.engine.specs.declared.answers.Choice.TheVariants.{Ours, Theirs, Third}
+use Rattle.engine.specs.declared.answers.Conflict.{Conflict}
 use Rattle.history.specs.History.{picked, chosen_grade}
 use Rattle.history.specs.Law.{held, Leaf}
 use Rattle.history.proofs.Ticking.{Acted, Ticked, tick_acted, tick_ticked, none_of_four, mapped_cond}

@@ -2,8 +2,8 @@
 use Rattle.std.proofs.Common.{◌≡◌, ℕ, zero, suc, ◌<◌, Bool, true, cond, eqb, ltb, List, [], ◌∷◌, ◌++◌, length, get_or, drop, is_ok, Ok, Err, Result, sym, refl, ap, ◌∙◌, subst, inl, inr, append_assoc, append-nil, arith, length-append, length-drop}
 use Rattle.std.proofs.lemmas.Bool.{and_parts, cases_eq, ltb-false}
 use Rattle.paths.specs.declared.fault.Fault.{Fault}
-use Rattle.rules.specs.Syncs.{entries_after, conflicts_of}
-use Rattle.rules.specs.declared.answers.Reported.{Reported}
+use Rattle.engine.specs.Syncs.{entries_after, conflicts_of}
+use Rattle.engine.specs.declared.answers.Reported.{Reported}
 use Rattle.history.specs.History.{Call, write, remove, sync, open_conflict, choose, leave, Event}
 use Rattle.history.specs.Requests.{names, all_name, Performs, report_left, calls, Asks, AsksAll, Continues}
 use Rattle.history.specs.Runs.{Stores, OnlyAt, leaves_of, Does, among_panels, Run}

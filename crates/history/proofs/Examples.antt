@@ -11,14 +11,14 @@ use Rattle.paths.specs.declared.stamp.Stamp.{Stamp}
 use Rattle.stores.specs.Climb.{climb, climb_by}
 use Rattle.stores.specs.Making.{blank}
 use Rattle.stores.specs.Meaning.{Model, nearest, least_at, greatest_at, with_entries, put_model, tick_model}
-use Rattle.rules.specs.Acts.{after_removal}
-use Rattle.rules.specs.Conflicts.{after_choice}
-use Rattle.rules.specs.Knowledge.{vector_at, outcome_at}
-use Rattle.rules.specs.Syncs.{passed, below_passed, touched, leaf_outcome, vector_after, entry_after, entries_after}
-use Rattle.rules.specs.declared.answers.Choice.TheVariants.{Theirs}
-use Rattle.rules.specs.declared.answers.Conflict.{Conflict}
-use Rattle.rules.specs.declared.leaf.Kind.TheVariants.{Tangled, RemovedAtSource}
-use Rattle.rules.specs.declared.leaf.Outcome.TheVariants.{Taken, Removed, Conflict as InConflict}
+use Rattle.engine.specs.Acts.{after_removal}
+use Rattle.engine.specs.Conflicts.{after_choice}
+use Rattle.engine.specs.Knowledge.{vector_at, outcome_at}
+use Rattle.engine.specs.Syncs.{passed, below_passed, touched, leaf_outcome, vector_after, entry_after, entries_after}
+use Rattle.engine.specs.declared.answers.Choice.TheVariants.{Theirs}
+use Rattle.engine.specs.declared.answers.Conflict.{Conflict}
+use Rattle.engine.specs.declared.leaf.Kind.TheVariants.{Tangled, RemovedAtSource}
+use Rattle.engine.specs.declared.leaf.Outcome.TheVariants.{Taken, Removed, Conflict as InConflict}
 use Rattle.history.specs.History.{Act, Call, write, remove, sync, choose, Event, history, reached, overruled, standing, side, arrived, prevails}
 use Rattle.history.specs.Law.{held}
 

@@ -3,7 +3,7 @@ use Rattle.std.proofs.Common.{◌≡◌, Bool, true, false, not, ◌&&◌, ◌�
 use Rattle.std.proofs.lemmas.Bool.{and_parts, and_from, both_ways, not-true, not-false, or_cases, or_left, or_right, false≢true, true≢false}
 use Rattle.paths.specs.declared.parts.GradeParts.{GradeParts}
 use Rattle.paths.specs.declared.parts.StampParts.{StampParts}
-use Rattle.rules.specs.LeafRule.{same_stamp}
+use Rattle.engine.specs.LeafRule.{same_stamp}
 use Rattle.history.specs.History.{Act, reached, overruled, differ, is_overruled, not_overruled, birth_shared, prevails_over}
 use Rattle.history.proofs.Reaching.{
   In,

@@ -7,15 +7,15 @@ use Rattle.paths.specs.Vectors.{greater, at_most, same_places}
 use Rattle.paths.specs.declared.path.Path.{Path}
 use Rattle.stores.specs.Climb.{first_of, climb, climb_by}
 use Rattle.stores.specs.Meaning.{Model, Lawful, is_leaf, with_entries}
-use Rattle.rules.proofs.Acting.{settled-grade}
-use Rattle.rules.proofs.Gathered.{has, no_candidate}
-use Rattle.rules.proofs.Passing.{passed_is_known}
-use Rattle.rules.proofs.Settling.{leaf_empty, entry_touched, entry_kept, sync_settles}
-use Rattle.rules.specs.Knowledge.{own, vector_at, grade_of, grade_at, outcome_at, is_conflict}
-use Rattle.rules.specs.Syncs.{grade_after, passed, below_passed, touched, leaf_outcome, vector_after, candidates, entries_after, report_of, reports, conflicts_of}
-use Rattle.rules.specs.declared.answers.Reported.{Reported}
-use Rattle.rules.specs.declared.leaf.Outcome.{Outcome}
-use Rattle.rules.specs.declared.leaf.Outcome.TheVariants.{Kept, Taken, Removed, Conflict}
+use Rattle.engine.proofs.Acting.{settled-grade}
+use Rattle.engine.proofs.Gathered.{has, no_candidate}
+use Rattle.engine.proofs.Passing.{passed_is_known}
+use Rattle.engine.proofs.Settling.{leaf_empty, entry_touched, entry_kept, sync_settles}
+use Rattle.engine.specs.Knowledge.{own, vector_at, grade_of, grade_at, outcome_at, is_conflict}
+use Rattle.engine.specs.Syncs.{grade_after, passed, below_passed, touched, leaf_outcome, vector_after, candidates, entries_after, report_of, reports, conflicts_of}
+use Rattle.engine.specs.declared.answers.Reported.{Reported}
+use Rattle.engine.specs.declared.leaf.Outcome.{Outcome}
+use Rattle.engine.specs.declared.leaf.Outcome.TheVariants.{Kept, Taken, Removed, Conflict}
 use Rattle.history.specs.History.{is_among}
 use Rattle.history.specs.Runs.{leaves_of}
 

@@ -4,11 +4,11 @@ use Rattle.std.specs.Option.{option_map}
 use Rattle.std.proofs.lemmas.Bool.{both_ways}
 use Rattle.paths.specs.declared.parts.GradeParts.{GradeParts}
 use Rattle.paths.specs.declared.parts.StampParts.{StampParts}
-use Rattle.rules.specs.Knowledge.{is_conflict}
-use Rattle.rules.specs.LeafRule.{Version, same_stamp, knows, goes_on, outcome}
-use Rattle.rules.specs.declared.leaf.Kind.TheVariants.{Concurrent, Tangled, RemovedAtDestination, RemovedAtSource}
-use Rattle.rules.specs.declared.leaf.Outcome.{Outcome}
-use Rattle.rules.specs.declared.leaf.Outcome.TheVariants.{Kept, Taken, Removed, Conflict}
+use Rattle.engine.specs.Knowledge.{is_conflict}
+use Rattle.engine.specs.LeafRule.{Version, same_stamp, knows, goes_on, outcome}
+use Rattle.engine.specs.declared.leaf.Kind.TheVariants.{Concurrent, Tangled, RemovedAtDestination, RemovedAtSource}
+use Rattle.engine.specs.declared.leaf.Outcome.{Outcome}
+use Rattle.engine.specs.declared.leaf.Outcome.TheVariants.{Kept, Taken, Removed, Conflict}
 use Rattle.history.specs.History.{Act, reached, overruled, side, differ, prevails_over, prevails}
 use Rattle.history.specs.Law.{Settles}
 use Rattle.history.proofs.Joining.{common, reached_overruled, not_both}

@@ -14,9 +14,9 @@ use Rattle.stores.specs.Making.{root_slot}
 use Rattle.stores.specs.Meaning.{Model, Lawful, nearest, greatest_at, bare_folders}
 use Rattle.stores.specs.Slots.{lookup, rises}
 use Rattle.stores.specs.declared.entry.Slot.{Slot}
-use Rattle.rules.specs.Knowledge.{vector_at, grade_of}
-use Rattle.rules.specs.Syncs.{conflicts_of, Syncs}
-use Rattle.rules.specs.declared.answers.Tally.{Tally}
+use Rattle.engine.specs.Knowledge.{vector_at, grade_of}
+use Rattle.engine.specs.Syncs.{conflicts_of, Syncs}
+use Rattle.engine.specs.declared.answers.Tally.{Tally}
 use Rattle.history.specs.History.{
   Act,
   Call,

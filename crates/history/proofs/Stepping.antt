@@ -9,12 +9,12 @@ use Rattle.paths.specs.declared.parts.SettingParts.{SettingParts}
 use Rattle.paths.specs.declared.parts.StampParts.{StampParts}
 use Rattle.paths.specs.declared.path.Path.{Path}
 use Rattle.stores.specs.Meaning.{Lawful}
-use Rattle.rules.specs.Acts.{next_stamp, Writes, Removes}
-use Rattle.rules.specs.Conflicts.{Chooses}
-use Rattle.rules.specs.Knowledge.{own, vector_at}
-use Rattle.rules.specs.declared.answers.Choice.{Choice}
-use Rattle.rules.specs.declared.answers.Conflict.{Conflict}
-use Rattle.rules.specs.declared.answers.Removal.{Removal}
+use Rattle.engine.specs.Acts.{next_stamp, Writes, Removes}
+use Rattle.engine.specs.Conflicts.{Chooses}
+use Rattle.engine.specs.Knowledge.{own, vector_at}
+use Rattle.engine.specs.declared.answers.Choice.{Choice}
+use Rattle.engine.specs.declared.answers.Conflict.{Conflict}
+use Rattle.engine.specs.declared.answers.Removal.{Removal}
 use Rattle.history.specs.History.{
   Act,
   History,

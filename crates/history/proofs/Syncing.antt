@@ -10,13 +10,13 @@ use Rattle.paths.specs.declared.grade.Grade.{Grade}
 use Rattle.paths.specs.declared.parts.GradeParts.{GradeParts}
 use Rattle.paths.specs.declared.path.Path.{Path}
 use Rattle.stores.specs.Meaning.{Lawful}
-use Rattle.rules.proofs.Keeping.{sync_keeps_lawful}
-use Rattle.rules.specs.Knowledge.{own, vector_at, grade_at, outcome_at, is_conflict}
-use Rattle.rules.specs.LeafRule.{version, outcome}
-use Rattle.rules.specs.Syncs.{grade_after, entries_after, conflicts_of, Syncs}
-use Rattle.rules.specs.declared.answers.Tally.{Tally}
-use Rattle.rules.specs.declared.leaf.Outcome.{Outcome}
-use Rattle.rules.specs.declared.leaf.Outcome.TheVariants.{Kept, Taken, Removed, Conflict}
+use Rattle.engine.proofs.Keeping.{sync_keeps_lawful}
+use Rattle.engine.specs.Knowledge.{own, vector_at, grade_at, outcome_at, is_conflict}
+use Rattle.engine.specs.LeafRule.{version, outcome}
+use Rattle.engine.specs.Syncs.{grade_after, entries_after, conflicts_of, Syncs}
+use Rattle.engine.specs.declared.answers.Tally.{Tally}
+use Rattle.engine.specs.declared.leaf.Outcome.{Outcome}
+use Rattle.engine.specs.declared.leaf.Outcome.TheVariants.{Kept, Taken, Removed, Conflict}
 use Rattle.history.specs.History.{Act, History, arrived, differ, is_among, note_sync}
 use Rattle.history.specs.Law.{held, Leaf}
 use Rattle.history.specs.Runs.{Stores, OnlyAt, leaves_of}

@@ -14,11 +14,11 @@ use Rattle.paths.specs.declared.path.Path.{Path}
 use Rattle.stores.proofs.Kept.{lawful-put, lawful_tick}
 use Rattle.stores.specs.Climb.{first_of}
 use Rattle.stores.specs.Meaning.{Model, Lawful, is_leaf, is_full, at_last, nearest, tick_model}
-use Rattle.rules.proofs.Acting.{write_settles, remove_settles}
-use Rattle.rules.proofs.ActsKeeping.{acts_keep_lawful}
-use Rattle.rules.specs.Acts.{filled, next_stamp, written, removed_count, Writes, Removes}
-use Rattle.rules.specs.Knowledge.{own, vector_at, grade_at, refuse_if}
-use Rattle.rules.specs.declared.answers.Removal.{Removal}
+use Rattle.engine.proofs.Acting.{write_settles, remove_settles}
+use Rattle.engine.proofs.ActsKeeping.{acts_keep_lawful}
+use Rattle.engine.specs.Acts.{filled, next_stamp, written, removed_count, Writes, Removes}
+use Rattle.engine.specs.Knowledge.{own, vector_at, grade_at, refuse_if}
+use Rattle.engine.specs.declared.answers.Removal.{Removal}
 use Rattle.history.specs.History.{written_grade}
 use Rattle.history.specs.Law.{held, Leaf}
 

@@ -8,11 +8,11 @@ use Rattle.paths.specs.declared.parts.KnobsParts.{KnobsParts}
 use Rattle.paths.specs.declared.parts.SettingParts.{SettingParts}
 use Rattle.paths.specs.declared.parts.StampParts.{StampParts}
 use Rattle.paths.specs.declared.path.Path.{Path}
-use Rattle.rules.specs.Acts.{filled}
-use Rattle.rules.specs.LeafRule.{same_stamp}
-use Rattle.rules.specs.declared.answers.Choice.{Choice}
-use Rattle.rules.specs.declared.answers.Choice.TheVariants.{Ours, Theirs, Third}
-use Rattle.rules.specs.declared.answers.Conflict.{Conflict}
+use Rattle.engine.specs.Acts.{filled}
+use Rattle.engine.specs.LeafRule.{same_stamp}
+use Rattle.engine.specs.declared.answers.Choice.{Choice}
+use Rattle.engine.specs.declared.answers.Choice.TheVariants.{Ours, Theirs, Third}
+use Rattle.engine.specs.declared.answers.Conflict.{Conflict}
 
 -- an act as it is noted at a leaf: its stamp, the grade that it set there or none, and the acts that it overrules
 pub record Act : Type 0 where

@@ -6,7 +6,7 @@ use Rattle.paths.specs.Steps.{levels, is_number, covers}
 use Rattle.paths.specs.declared.parts.GradeParts.{GradeParts}
 use Rattle.paths.specs.declared.path.Path.{Path}
 use Rattle.stores.specs.Meaning.{Model, is_leaf}
-use Rattle.rules.specs.Knowledge.{grade_at}
+use Rattle.engine.specs.Knowledge.{grade_at}
 use Rattle.history.specs.History.{Act, standing, side, differ, prevails, sync, Event, History, history, is_among}
 use Rattle.history.specs.Runs.{Stores, Step, Run}
 

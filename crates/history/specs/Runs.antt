@@ -3,13 +3,13 @@ use Rattle.std.specs.Prelude.{◌≡◌, ℕ, ◌≤◌, Bool, true, cond, ◌&&
 use Rattle.paths.specs.declared.fault.Fault.{Fault}
 use Rattle.stores.specs.Making.{root_slot}
 use Rattle.stores.specs.Meaning.{Model}
-use Rattle.rules.specs.Acts.{Writes, Removes}
-use Rattle.rules.specs.Conflicts.{Opens, Chooses, Leaves}
-use Rattle.rules.specs.Syncs.{Syncs, conflicts_of}
-use Rattle.rules.specs.declared.answers.Conflict.{Conflict}
-use Rattle.rules.specs.declared.answers.Removal.{Removal}
-use Rattle.rules.specs.declared.answers.Reported.{Reported}
-use Rattle.rules.specs.declared.answers.Tally.{Tally}
+use Rattle.engine.specs.Acts.{Writes, Removes}
+use Rattle.engine.specs.Conflicts.{Opens, Chooses, Leaves}
+use Rattle.engine.specs.Syncs.{Syncs, conflicts_of}
+use Rattle.engine.specs.declared.answers.Conflict.{Conflict}
+use Rattle.engine.specs.declared.answers.Removal.{Removal}
+use Rattle.engine.specs.declared.answers.Reported.{Reported}
+use Rattle.engine.specs.declared.answers.Tally.{Tally}
 use Rattle.history.specs.History.{Call, write, remove, sync, open_conflict, choose, leave, Event}
 
 -- the store of each panel, by its number

@@ -1,19 +1,19 @@
 // Panels that stand together. Each call names its panels by their numbers.
 ghost use Rattle.std.specs.Prelude.{◌≡◌, ℕ, Bool, true, ◌&&◌, length};
-ghost use Rattle.rules.specs.Acts.{Writes, Removes};
-ghost use Rattle.rules.specs.Conflicts.{Opens};
-ghost use Rattle.rules.specs.Syncs.{Syncs, report_after, report_filled, WorkAfter};
+ghost use Rattle.engine.specs.Acts.{Writes, Removes};
+ghost use Rattle.engine.specs.Conflicts.{Opens};
+ghost use Rattle.engine.specs.Syncs.{Syncs, report_after, report_filled, WorkAfter};
 ghost use Rattle.stores.specs.Meaning.{Lawful};
 ghost use Rattle.stores.specs.Slots.{lookup, next_after};
 ghost use Rattle.history.specs.Requests.{Resolves};
 ghost use Rattle.history.specs.Runs.{Stores, OnlyAt};
 
+use engine::answers::{Choice, Conflict, Removal, Reported, Tally};
 use lists::FrontList;
 use paths::fault::Fault;
 use paths::parts::SettingParts;
 use paths::path::Path;
 use paths::stamp::Panel;
-use rules::answers::{Choice, Conflict, Removal, Reported, Tally};
 use stores::entry::{Entry, Slot};
 
 pub trait Panels {

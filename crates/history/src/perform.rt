@@ -5,9 +5,9 @@ ghost use Rattle.history.specs.Requests.{names, all_name, Performs, report_left,
 
 use crate::panels::Panels;
 use crate::request::{Answer, Request};
+use engine::answers::Reported;
 use lists::FrontList;
 use paths::fault::Fault;
-use rules::answers::Reported;
 use stores::entry::Slot;
 
 // One request. A sync refills the report from its front.

@@ -1,8 +1,8 @@
 // What can be asked of panels that stand together, and what is answered.
+use engine::answers::{Choice, Conflict, Removal, Tally};
 use paths::parts::SettingParts;
 use paths::path::Path;
 use paths::stamp::Panel;
-use rules::answers::{Choice, Conflict, Removal, Tally};
 
 // A call by the numbers of its panels; of two panels the first is the source.
 #[derive(Clone, Copy)]

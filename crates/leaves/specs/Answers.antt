@@ -9,10 +9,10 @@ use Rattle.paths.specs.declared.fault.Fault.{Fault}
 use Rattle.paths.specs.declared.fault.Fault.TheVariants.{NoLeaf, OutOfRange}
 use Rattle.paths.specs.declared.parts.GradeParts.{GradeParts}
 use Rattle.paths.specs.declared.path.Path.{Path}
-use Rattle.rules.specs.LeafRule.{Version, outcome, kind_number}
-use Rattle.rules.specs.declared.leaf.Outcome.{Outcome}
-use Rattle.rules.specs.declared.leaf.Outcome.TheVariants.{Kept, Taken, Removed, Conflict}
-use Rattle.rules.specs.declared.leaf.Side.{Side}
+use Rattle.engine.specs.LeafRule.{Version, outcome, kind_number}
+use Rattle.engine.specs.declared.leaf.Outcome.{Outcome}
+use Rattle.engine.specs.declared.leaf.Outcome.TheVariants.{Kept, Taken, Removed, Conflict}
+use Rattle.engine.specs.declared.leaf.Side.{Side}
 use Rattle.leaves.specs.Lines.{LineText}
 use Rattle.leaves.specs.declared.answer.Answer.{Answer}
 use Rattle.leaves.specs.declared.answer.Answer.TheVariants.{Unread, Refused, Decided}

@@ -7,10 +7,10 @@ ghost use Rattle.leaves.specs.Answers.{side_parts, lawful_side, judged, Answered
 ghost use Rattle.leaves.specs.Lines.{read_line};
 
 use crate::line::{SideParts, read_line};
+use engine::leaf::{Outcome, Side, decide};
 use paths::fault::{Fault, Site};
 use paths::grade::Grade;
 use paths::path::Path;
-use rules::leaf::{Outcome, Side, decide};
 use std::fmt;
 
 #[derive(Clone, Copy)]

@@ -3,7 +3,7 @@ ghost use Rattle.std.specs.Prelude.{◌≡◌, Some};
 ghost use Rattle.leaves.specs.Counts.{adds, both, report};
 
 use crate::answer::Answer;
-use rules::leaf::Outcome;
+use engine::leaf::Outcome;
 use std::fmt;
 
 #[derive(Clone, Copy)]

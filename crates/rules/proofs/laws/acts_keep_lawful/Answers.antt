@@ -1,5 +1,0 @@
-use Rattle.rules.proofs.ActsKeeping.{acts_keep_lawful}
-use Rattle.rules.proofs.laws.acts_keep_lawful.Goals as goal
-
-pub returns : goal.returns
-returns c = acts_keep_lawful

@@ -1,5 +1,0 @@
-use Rattle.rules.proofs.Passing.{passed_is_known}
-use Rattle.rules.proofs.laws.passed_folder_is_known.Goals as goal
-
-pub returns : goal.returns
-returns c = passed_is_known
