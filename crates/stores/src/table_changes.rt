@@ -1,4 +1,6 @@
 // The changes of a table.
+ghost use Rattle.std.specs.Prelude.{◌≡◌};
+ghost use Rattle.stores.specs.Meaning.{stored};
 ghost use Rattle.stores.specs.Tables.{TableKeeps};
 
 use crate::entry::{Entry, Slot};
@@ -9,16 +11,23 @@ use paths::fault::{Cause, StoreFault};
 use paths::path::Path;
 use paths::stamp::Time;
 
+// What a put of the entry at the path stores.
+fn stored_slot(path: Path, entry: Entry) -> Slot
+    ensures { result ≡ record { path = path; entry = stored path.number entry } }
+{
+    Slot {
+        path,
+        entry: entry.stored_at(path),
+    }
+}
+
 impl<'a> Store for Table<'a> {
     ghost keeps = { TableKeeps };
 
     fn put(&mut self, path: Path, entry: Entry) -> Result<(), StoreFault> {
-        let slot = Slot {
-            path,
-            entry: entry.stored_at(path),
-        };
         let len = self.len;
         let most = self.capacity;
+        let slot = stored_slot(path, entry);
         let Some(len) = put_slot(self.slots, len, most, slot) else {
             return Err(StoreFault {
                 cause: Cause::Full,

@@ -1,5 +1,6 @@
-use Rattle.std.proofs.Common.{not, ◌&&◌, sym, ap, ◌∙◌, ap₂, arith, rules}
-use Rattle.std.proofs.lemmas.Bool.{cond-false, ne_eqb}
+use Rattle.std.proofs.Common.{◌≡◌, false, not, ◌&&◌, eqb, sym, ap, ◌∙◌, ap₂, arith, rules}
+use Rattle.std.proofs.lemmas.Bool.{cond-false}
+use Rattle.std.proofs.lemmas.Bool.Decides.{nat_tests}
 use Rattle.stores.proofs.Kept.{lawful-drop}
 use Rattle.stores.proofs.TableLaws.{sound_as, gone, not_gone, behind-dropped}
 use Rattle.stores.specs.Meaning.{with_entries}
@@ -8,7 +9,7 @@ use Rattle.stores.proofs.table_changes.TableStore.drop.Goals as goal
 
 pub returns-in_default : goal.returns-in_default
 returns-in_default c =
-    let other = ne_eqb c.args.path.number 0 c.if-path-eq0.false in
+    let other : eqb c.args.path.number 0 ≡ false = grind (arith, nat_tests) in
     let none = not_gone _ c.args.self.now.len c.in_default.ensures.answer in
     let after =
     ap (with_entries (table_model c.args.self.now))
@@ -23,7 +24,7 @@ returns-in_default c =
 
 pub returns : goal.returns
 returns c =
-    let other = ne_eqb c.args.path.number 0 c.if-path-eq0.false in
+    let other : eqb c.args.path.number 0 ≡ false = grind (arith, nat_tests) in
     let (found, fewer) = gone _ c.args.self.now.len c.in-Some.len c.in-Some.ensures.answer in
     let after =
     ap (with_entries (table_model c.args.self.now))
