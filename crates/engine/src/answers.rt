@@ -36,7 +36,6 @@ pub enum Choice {
 }
 
 // A conflict that was opened: the panels, the leaf, and the stamp of each side, if it has a grade.
-#[derive(Clone, Copy)]
 pub struct Conflict {
     pub source: Panel,
     pub destination: Panel,

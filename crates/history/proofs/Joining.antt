@@ -18,8 +18,8 @@ use Rattle.history.proofs.Reaching.{
   is_reached,
   not_reached,
   overruled_is,
-  is_overruled as is-overruled-from,
-  not_overruled as not-overruled-from,
+  is_overruled as is_overruled_from,
+  not_overruled as not_overruled_from,
   false_from,
 }
 use Rattle.history.proofs.Sides.{Born, Ended, Formed, Held}
@@ -162,7 +162,7 @@ module _ (xs ys : List Act) (fx : Formed xs) (fy : Formed ys) (one : Agree xs ys
           let also : y.sets ≡ Some k = subst (λ (t : Act). t.sets ≡ Some k) same sets in
           elim (hy.others y k n also) [
             | inl held ↦ absurd (same_side h held d)
-            | inr o ↦ r ∙ sym (is-overruled-from k.stamp ys (subst (λ t. Overruled t ys) e o))
+            | inr o ↦ r ∙ sym (is_overruled_from k.stamp ys (subst (λ t. Overruled t ys) e o))
           ]
       go false r =
           r
@@ -198,7 +198,7 @@ prevails-from g h xs ys t =
       other =
           λ k is. inr (overruled_is k.stamp ys (subst (λ o. is_overruled o ys ≡ true) is over));
       itself =
-          λ k is. not-overruled-from k.stamp xs
+          λ k is. not_overruled_from k.stamp xs
           (not-true (overruled k.stamp xs) (subst (λ o. not_overruled o xs ≡ true) is free));
       shared =
           λ k is r. births k r g (subst (λ o. birth_shared o g xs ≡ true) is shares);

@@ -16,7 +16,7 @@ pub enum Request {
     Resolve(Panel, Panel, Path, Choice),
 }
 
-#[derive(Clone, Copy)]
+// A conflict that was found has to be taken apart, as wherever one is held.
 pub enum Answer {
     // the clock after a write or a choice
     Clock(u32),

@@ -1,6 +1,6 @@
 // Version vectors: what a panel knows of the acts of each of the eight panels.
 ghost use Rattle.std.specs.Prelude.{◌≡◌, min, max};
-ghost use Rattle.paths.specs.Vectors.{place, with_place, greater as greater-places, lesser as lesser-places, at_most, known};
+ghost use Rattle.paths.specs.Vectors.{place, with_place, greater as greater_places, lesser as lesser_places, at_most, known};
 
 use crate::stamp::{Panel, Stamp};
 
@@ -41,7 +41,7 @@ impl Vector {
 
     // Place by place, the greater of both.
     pub fn greater(self, other: Vector) -> Vector
-        ensures { result.places ≡ greater-places self.places other.places }
+        ensures { result.places ≡ greater_places self.places other.places }
     {
         let mut places = self.places;
         for i in 0..Panel::COUNT {
@@ -52,7 +52,7 @@ impl Vector {
 
     // Place by place, the lesser of both.
     pub fn lesser(self, other: Vector) -> Vector
-        ensures { result.places ≡ lesser-places self.places other.places }
+        ensures { result.places ≡ lesser_places self.places other.places }
     {
         let mut places = self.places;
         for i in 0..Panel::COUNT {
@@ -84,8 +84,8 @@ impl Vector {
 impl Bounds {
     // The bounds of one vector more.
     pub fn and(self, vector: Vector) -> Bounds
-        ensures least { result.least.places ≡ lesser-places self.least.places vector.places }
-        ensures greatest { result.greatest.places ≡ greater-places self.greatest.places vector.places }
+        ensures least { result.least.places ≡ lesser_places self.least.places vector.places }
+        ensures greatest { result.greatest.places ≡ greater_places self.greatest.places vector.places }
     {
         Bounds {
             least: self.least.lesser(vector),

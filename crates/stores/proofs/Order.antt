@@ -3,7 +3,7 @@ use Rattle.std.proofs.Common.{◌≡◌, ℕ, zero, suc, ◌+◌, ◌<◌, ◌�
 use Rattle.std.proofs.lemmas.List.{take-append-drop, drop_more, drop_all, length-drop, get_or-drop, set_split}
 use Rattle.std.proofs.lemmas.Bool.{and_parts, cond-true, cond-false, cases_lt, cases_eq, true≢false, lt-ltb, eq-eqb, ltb-true, le-ltb, ne_eqb}
 use Rattle.stores.proofs.Entries.{after_less, lookup-before}
-use Rattle.stores.specs.Slots.{key, lookup, next_after, put, drop as drop-slot, dropped, after, rises, place}
+use Rattle.stores.specs.Slots.{key, lookup, next_after, put, drop as drop_slots, dropped, after, rises, place}
 use Rattle.stores.specs.declared.entry.Slot.{Slot}
 
 after-at : (q : ℕ) (es : List Slot) (k : ℕ) (d : Slot) → after q es ≡ true → k < length es → q < key (get_or es k d)
@@ -72,7 +72,7 @@ put_skip (t ∷ fs) es s h = go (and_parts (ltb (key t) (key s)) (below (key s) 
         cond-false (ltb (key s) (key t)) _ _ (le-ltb (key s) (key t) (omega arith))
         ∙ cond-false (eqb (key s) (key t)) _ _ (ne_eqb (key s) (key t) (λ e. omega arith)) ∙ ap (λ r. t ∷ r) (more rest)
 
-drop_skip : (fs es : List Slot) (q : ℕ) → below q fs ≡ true → drop-slot (fs ++ es) q ≡ fs ++ drop-slot es q
+drop_skip : (fs es : List Slot) (q : ℕ) → below q fs ≡ true → drop_slots (fs ++ es) q ≡ fs ++ drop_slots es q
 drop_skip [] es q h = refl
 drop_skip (s ∷ fs) es q h = grind (arith, drop_skip fs es q)
 
@@ -91,8 +91,8 @@ module _ (es : List Slot) (q : ℕ) where
   pub next-from : next_after es q ≡ next_after (drop (place es q) es) q
   next-from = ap (λ t. next_after t q) whole ∙ next_skip _ _ q (place-below es q)
 
-  pub drop-from : drop-slot es q ≡ take (place es q) es ++ drop-slot (drop (place es q) es) q
-  drop-from = ap (λ t. drop-slot t q) whole ∙ drop_skip _ _ q (place-below es q)
+  pub drop-from : drop_slots es q ≡ take (place es q) es ++ drop_slots (drop (place es q) es) q
+  drop-from = ap (λ t. drop_slots t q) whole ∙ drop_skip _ _ q (place-below es q)
 
   dropped-from : dropped es q ≡ dropped (drop (place es q) es) q
   dropped-from = ap (λ t. dropped t q) whole ∙ dropped_skip _ _ q (place-below es q)
@@ -218,12 +218,12 @@ put_entered es s h found =
 
 pub drop_entered :
     (es : List Slot) (q : ℕ) (d : Slot) → rises es ≡ true → is_some (lookup es q) ≡ true
-    → drop-slot es q ≡ take (place es q) es ++ drop (place es q + 1) es
+    → drop_slots es q ≡ take (place es q) es ++ drop (place es q + 1) es
 drop_entered es q d h found =
     let i = place es q in
     drop-from es q
     ∙ ap (λ t. take i es ++ t)
-    (ap (λ t. drop-slot t q) (drop_more es i d (entered_within es q found))
+    (ap (λ t. drop_slots t q) (drop_more es i d (entered_within es q found))
     ∙ cond-true (eqb (key (get_or es i d)) q) _ _ (eq-eqb _ _ (entered_here es q d h found)))
 
 pub dropped_entered :
