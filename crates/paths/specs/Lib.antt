@@ -1,7 +1,9 @@
 pub mod Faults
+pub mod Knobs
 pub mod Notation
 pub mod Parts
 pub mod PathLaws
 pub mod Ranges
 pub mod Steps
+pub mod Values
 pub mod Vectors

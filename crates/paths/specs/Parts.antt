@@ -1,21 +1,20 @@
 -- Values by the plain numbers that they are made of, and which numbers make one.
 use Rattle.std.specs.Prelude.{◌≡◌, Bool, true, false, ◌&&◌, ◌||◌, ℤ, is_some, Some, None, Ok, Err, Option, Result}
 use Rattle.std.specs.Option.{option_map}
-use Rattle.paths.specs.declared.fault.Fault.{Fault}
-use Rattle.paths.specs.declared.grade.Grade.{Grade}
+use Rattle.paths.specs.declared.grade.Knob.{Knob}
 use Rattle.paths.specs.declared.grade.Knobs.{Knobs}
 use Rattle.paths.specs.declared.grade.Setting.{Setting}
-use Rattle.paths.specs.declared.parts.GradeParts.{GradeParts}
-use Rattle.paths.specs.declared.parts.KnobsParts.{KnobsParts}
-use Rattle.paths.specs.declared.parts.SettingParts.{SettingParts}
-use Rattle.paths.specs.declared.parts.StampParts.{StampParts}
-use Rattle.paths.specs.declared.stamp.Stamp.{Stamp}
+use Rattle.paths.specs.declared.parts.RangeError.{RangeError}
 use Rattle.paths.specs.Ranges.{is_knob, is_panel, is_time}
+use Rattle.paths.specs.Values.{Grade, GradeParts, KnobsParts, SettingParts, Stamp, StampParts}
 
 -- what a maker answers: where the parts are lawful a value of just these parts, else the fault
-abbrev pub MadeOf : {V P : Type 0} → (V → P) → P → Bool → Fault → Result V Fault → Type 0
+abbrev pub MadeOf : {V P E : Type 0} → (V → P) → P → Bool → E → Result V E → Type 0
 MadeOf parts-of parts lawful fault (Ok v) = (lawful ≡ true) × (parts-of v ≡ parts)
 MadeOf parts-of parts lawful fault (Err f) = (lawful ≡ false) × (f ≡ fault)
+
+abbrev pub range_error : RangeError
+range_error = record {}
 
 abbrev pub stamp_parts : Stamp → StampParts
 stamp_parts s = record { panel = s.panel.number; time = s.time.value }
@@ -23,7 +22,7 @@ stamp_parts s = record { panel = s.panel.number; time = s.time.value }
 abbrev pub lawful_stamp : StampParts → Bool
 lawful_stamp s = is_panel s.panel && is_time s.time
 
-abbrev pub knobs_parts : Knobs → KnobsParts
+abbrev pub knobs_parts : Knobs Knob → KnobsParts
 knobs_parts k =
     record { lift = k.lift.value; gamma = k.gamma.value; gain = k.gain.value; contrast = k.contrast.value }
 
@@ -40,10 +39,10 @@ lawful_grade g = lawful_knobs g.knobs && lawful_stamp g.stamp && lawful_stamp g.
 abbrev pub setting_parts : Setting → SettingParts
 setting_parts k =
     record {
-      lift = option_map (λ x. x.value) k.lift;
-      gamma = option_map (λ x. x.value) k.gamma;
-      gain = option_map (λ x. x.value) k.gain;
-      contrast = option_map (λ x. x.value) k.contrast;
+      lift = option_map (λ x. x.value) k.knobs.lift;
+      gamma = option_map (λ x. x.value) k.knobs.gamma;
+      gain = option_map (λ x. x.value) k.knobs.gain;
+      contrast = option_map (λ x. x.value) k.knobs.contrast;
     }
 
 -- what is left out is in range

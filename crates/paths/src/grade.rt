@@ -1,7 +1,7 @@
 // Grades: four knobs from -1000 to 1000, the stamp of the last act that set them and the stamp of their birth.
 ghost use Rattle.std.specs.Prelude.{◌||◌, T, pos, negsuc, ◌≤ℤ◌, is_some};
 
-use crate::stamp::Stamp;
+use crate::stamp::{Stamp, StampParts};
 
 #[derive(Clone, Copy)]
 pub struct Knob {
@@ -10,27 +10,31 @@ pub struct Knob {
     ghost high: { value ≤ℤ pos 1000 },
 }
 
+// A value for each knob.
 #[derive(Clone, Copy)]
-pub struct Knobs {
-    pub lift: Knob,
-    pub gamma: Knob,
-    pub gain: Knob,
-    pub contrast: Knob,
+pub struct Knobs<K> {
+    pub lift: K,
+    pub gamma: K,
+    pub gain: K,
+    pub contrast: K,
 }
 
+// In range, or of the plain numbers that a caller hands in.
 #[derive(Clone, Copy)]
-pub struct Grade {
-    pub knobs: Knobs,
-    pub stamp: Stamp,
-    pub birth: Stamp,
+pub struct Grade<K = Knob, S = Stamp> {
+    pub knobs: Knobs<K>,
+    pub stamp: S,
+    pub birth: S,
 }
+
+pub type GradeParts = Grade<i64, StampParts>;
 
 // What a caller sets: one knob at least; the others are left out.
 #[derive(Clone, Copy)]
 pub struct Setting {
-    pub lift: Option<Knob>,
-    pub gamma: Option<Knob>,
-    pub gain: Option<Knob>,
-    pub contrast: Option<Knob>,
-    ghost some: { T (is_some lift || is_some gamma || is_some gain || is_some contrast) },
+    pub knobs: Knobs<Option<Knob>>,
+    ghost some: { T (is_some knobs.lift || is_some knobs.gamma || is_some knobs.gain || is_some knobs.contrast) },
 }
+
+// The knobs of a write or a third grade as handed in; None is left out.
+pub type SettingParts = Knobs<Option<i64>>;

@@ -3,6 +3,7 @@
 
 pub mod fault;
 pub mod grade;
+pub mod knobs;
 pub mod laws;
 pub mod notation;
 pub mod parts;

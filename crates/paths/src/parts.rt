@@ -3,112 +3,114 @@ ghost use Rattle.std.specs.Prelude.{◌≡◌, not};
 ghost use Rattle.std.specs.Option.{option_map};
 ghost use Rattle.paths.specs.declared.fault.Fault.TheVariants.{OutOfRange};
 ghost use Rattle.paths.specs.Faults.{nowhere};
-ghost use Rattle.paths.specs.Parts.{MadeOf, stamp_parts, lawful_stamp, knobs_parts, lawful_knobs, grade_parts, lawful_grade, in_range, some_set, setting_parts, lawful_setting};
-ghost use Rattle.paths.specs.Ranges.{is_knob};
+ghost use Rattle.paths.specs.Parts.{MadeOf, stamp_parts, lawful_stamp, knobs_parts, lawful_knobs, grade_parts, lawful_grade, in_range, range_error, some_set, setting_parts, lawful_setting};
+ghost use Rattle.paths.specs.Ranges.{is_knob, is_panel, is_time};
 
 use crate::fault::{Fault, Site};
-use crate::grade::{Grade, Knob, Knobs, Setting};
-use crate::stamp::{Panel, Stamp, Time};
+use crate::grade::{Grade, GradeParts, Knob, Knobs, Setting, SettingParts};
+use crate::stamp::{Panel, Stamp, StampParts, Time};
 
-#[derive(Clone, Copy)]
-pub struct StampParts {
-    pub panel: u64,
-    pub time: u64,
-}
+// A number is out of its range.
+#[derive(Clone, Copy, PartialEq, Eq)]
+pub struct RangeError;
 
-#[derive(Clone, Copy)]
-pub struct KnobsParts {
-    pub lift: i64,
-    pub gamma: i64,
-    pub gain: i64,
-    pub contrast: i64,
-}
+impl From<RangeError> for Fault {
+    ghost from_gives = { λ _ f. f ≡ OutOfRange nowhere };
 
-#[derive(Clone, Copy)]
-pub struct GradeParts {
-    pub knobs: KnobsParts,
-    pub stamp: StampParts,
-    pub birth: StampParts,
-}
-
-// The knobs of a write or a third grade as handed in; None is left out.
-#[derive(Clone, Copy)]
-pub struct SettingParts {
-    pub lift: Option<i64>,
-    pub gamma: Option<i64>,
-    pub gain: Option<i64>,
-    pub contrast: Option<i64>,
-}
-
-impl Stamp {
-    pub fn of_parts(parts: StampParts) -> Result<Stamp, Fault>
-        ensures { MadeOf stamp_parts parts (lawful_stamp parts) (OutOfRange nowhere) result }
-    {
-        if parts.panel < 1 || parts.panel > 8 || parts.time < 1 || parts.time > 1_000_000 {
-            return Err(Fault::OutOfRange(Site::nowhere()));
-        }
-        Ok(Stamp {
-            panel: Panel {
-                number: parts.panel as u8,
-            },
-            time: Time {
-                value: parts.time as u32,
-            },
-        })
+    fn from(_: RangeError) -> Fault {
+        Fault::OutOfRange(Site::nowhere())
     }
 }
 
-impl Knob {
-    fn of_part(value: i64, site: Site) -> Result<Knob, Fault>
-        ensures { MadeOf (λ k. k.value) value (is_knob value) (OutOfRange site) result }
-    {
-        if value < -1000 || value > 1000 {
-            return Err(Fault::OutOfRange(site));
-        }
-        Ok(Knob {
-            value: value as i16,
-        })
-    }
+impl TryFrom<u64> for Panel {
+    type Error = RangeError;
 
-    fn of_option(value: Option<i64>, site: Site) -> Result<Option<Knob>, Fault>
-        ensures { MadeOf (option_map (λ k. k.value)) value (in_range value) (OutOfRange site) result }
-    {
+    ghost try_from_gives = { λ n r. MadeOf (λ p. p.number) n (is_panel n) range_error r };
+
+    fn try_from(number: u64) -> Result<Panel, RangeError> {
+        match number {
+            1..=8 => Ok(Panel {
+                number: number as u8,
+            }),
+            _ => Err(RangeError),
+        }
+    }
+}
+
+impl TryFrom<u64> for Time {
+    type Error = RangeError;
+
+    ghost try_from_gives = { λ n r. MadeOf (λ t. t.value) n (is_time n) range_error r };
+
+    fn try_from(value: u64) -> Result<Time, RangeError> {
         match value {
-            Some(value) => Ok(Some(Knob::of_part(value, site)?)),
-            None => Ok(None),
+            1..=1_000_000 => Ok(Time {
+                value: value as u32,
+            }),
+            _ => Err(RangeError),
         }
     }
 }
 
-impl Knobs {
-    fn of_parts(parts: KnobsParts, site: Site) -> Result<Knobs, Fault>
-        ensures { MadeOf knobs_parts parts (lawful_knobs parts) (OutOfRange site) result }
-    {
-        let lift = Knob::of_part(parts.lift, site)?;
-        let gamma = Knob::of_part(parts.gamma, site)?;
-        let gain = Knob::of_part(parts.gain, site)?;
-        let contrast = Knob::of_part(parts.contrast, site)?;
-        Ok(Knobs {
-            lift,
-            gamma,
-            gain,
-            contrast,
+impl TryFrom<i64> for Knob {
+    type Error = RangeError;
+
+    ghost try_from_gives = { λ x r. MadeOf (λ k. k.value) x (is_knob x) range_error r };
+
+    fn try_from(value: i64) -> Result<Knob, RangeError> {
+        match value {
+            -1000..=1000 => Ok(Knob {
+                value: value as i16,
+            }),
+            _ => Err(RangeError),
+        }
+    }
+}
+
+impl TryFrom<StampParts> for Stamp {
+    type Error = Fault;
+
+    ghost try_from_gives = { λ s r. MadeOf stamp_parts s (lawful_stamp s) (OutOfRange nowhere) r };
+
+    fn try_from(parts: StampParts) -> Result<Stamp, Fault> {
+        Ok(Stamp {
+            panel: Panel::try_from(parts.panel)?,
+            time: Time::try_from(parts.time)?,
         })
     }
 }
 
-impl Grade {
-    pub fn of_parts(parts: GradeParts) -> Result<Grade, Fault>
-        ensures { MadeOf grade_parts parts (lawful_grade parts) (OutOfRange nowhere) result }
-    {
-        let knobs = Knobs::of_parts(parts.knobs, Site::nowhere())?;
-        let stamp = Stamp::of_parts(parts.stamp)?;
-        let birth = Stamp::of_parts(parts.birth)?;
+impl TryFrom<Knobs<i64>> for Knobs<Knob> {
+    type Error = RangeError;
+
+    ghost try_from_gives = { λ k r. MadeOf knobs_parts k (lawful_knobs k) range_error r };
+
+    fn try_from(parts: Knobs<i64>) -> Result<Knobs<Knob>, RangeError> {
+        parts.try_map(|value| Knob::try_from(value))
+    }
+}
+
+impl TryFrom<GradeParts> for Grade {
+    type Error = Fault;
+
+    ghost try_from_gives = { λ g r. MadeOf grade_parts g (lawful_grade g) (OutOfRange nowhere) r };
+
+    fn try_from(parts: GradeParts) -> Result<Grade, Fault> {
         Ok(Grade {
-            knobs,
-            stamp,
-            birth,
+            knobs: Knobs::try_from(parts.knobs)?,
+            stamp: Stamp::try_from(parts.stamp)?,
+            birth: Stamp::try_from(parts.birth)?,
         })
+    }
+}
+
+// A knob that may be left out.
+fn optional_knob(value: Option<i64>) -> Result<Option<Knob>, RangeError>
+    ensures { MadeOf (option_map (λ k. k.value)) value (in_range value) range_error result }
+{
+    match value {
+        Some(value) => Ok(Some(Knob::try_from(value)?)),
+        None => Ok(None),
     }
 }
 
@@ -132,15 +134,9 @@ impl Setting {
         if parts.is_empty() {
             return Err(Fault::OutOfRange(site));
         }
-        let lift = Knob::of_option(parts.lift, site)?;
-        let gamma = Knob::of_option(parts.gamma, site)?;
-        let gain = Knob::of_option(parts.gain, site)?;
-        let contrast = Knob::of_option(parts.contrast, site)?;
-        Ok(Setting {
-            lift,
-            gamma,
-            gain,
-            contrast,
-        })
+        match parts.try_map(|value| optional_knob(value)) {
+            Ok(knobs) => Ok(Setting { knobs }),
+            Err(RangeError) => Err(Fault::OutOfRange(site)),
+        }
     }
 }

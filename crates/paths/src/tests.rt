@@ -1,7 +1,6 @@
 // The examples of docs/, run.
 use crate::fault::{Cause, Fault, Site, StoreFault};
-use crate::grade::Setting;
-use crate::parts::SettingParts;
+use crate::grade::{Setting, SettingParts};
 use crate::path::Path;
 use crate::stamp::{Panel, Stamp, Time};
 use crate::vector::Vector;
