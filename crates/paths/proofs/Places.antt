@@ -2,7 +2,8 @@
 use Rattle.std.proofs.Common.{◌≡◌, ℕ, zero, suc, ◌<◌, ◌≤◌, min, max, Bool, true, false, cond, eqb, leb, List, [], ◌∷◌, length, get_or, set, sym, refl, ap, ◌∙◌, ap₂, suc-le-suc, arith}
 use Rattle.std.proofs.lemmas.Bool.{le-leb}
 use Rattle.std.proofs.lemmas.Bool.Decides.{nat_tests}
-use Rattle.paths.specs.Vectors.{put_at, place_by_place, greater, lesser, at_most}
+use Rattle.std.specs.Bool.{MatchBool}
+use Rattle.paths.specs.Vectors.{put_at, EachPlace, place_by_place, greater, lesser, at_most}
 
 -- a list that has the joined places is the joined vector
 pub joined_by_places :
@@ -15,6 +16,14 @@ joined_by_places f (x ∷ u) [] w e e' h = absurd (omega arith)
 joined_by_places f (x ∷ u) (y ∷ v) [] e e' h = absurd (omega arith)
 joined_by_places f (x ∷ u) (y ∷ v) (z ∷ w) e e' h =
     ap₂ ◌∷◌ (h 0 (omega arith)) (joined_by_places f u v w (omega arith) (omega arith) (λ k lt. h (suc k) (suc-le-suc lt)))
+
+-- a vector whose places a rule made of those of both, where the rule gives f
+pub joined_by_rule :
+    (f : ℕ → ℕ → ℕ) {R : ℕ → ℕ → ℕ → Type 0} (v w u : List ℕ) → length v ≡ 8 → length w ≡ 8 → EachPlace R v w u
+    → ((x y z : ℕ) → R x y z → z ≡ f x y) → u ≡ place_by_place f v w
+joined_by_rule f v w u lv lw each gives =
+    joined_by_places f u v w (omega (arith, each.long)) (omega arith)
+    (λ k lt. gives _ _ _ (each.at k (omega (arith, each.long))))
 
 pub at_most_at : (v w : List ℕ) → at_most v w ≡ true → (k : ℕ) → get_or v k 0 ≤ get_or w k 0
 at_most_at [] w e k = omega arith
@@ -38,6 +47,14 @@ not_at_most v w k lt = go (at_most v w) refl
     go : (b : Bool) → at_most v w ≡ b → at_most v w ≡ false
     go true e = absurd (omega (arith, at_most_at v w e k))
     go false e = e
+
+-- what a test of place after place found
+pub at_most_is :
+    (v w : List ℕ) (b : Bool)
+    → MatchBool b ((k : ℕ) → k < length v → get_or v k 0 ≤ get_or w k 0) ((k : ℕ) × (get_or w k 0 < get_or v k 0))
+    → b ≡ at_most v w
+at_most_is v w true h = sym (at_most_from v w h)
+at_most_is v w false h = sym (not_at_most v w h.0 h.1)
 
 pub at_most_itself : (v : List ℕ) → at_most v v ≡ true
 at_most_itself v = at_most_from v v (λ k _. omega arith)

@@ -1,5 +1,5 @@
 -- Reading a path's steps gives back exactly what printing writes.
-use Rattle.std.proofs.Common.{◌≡◌, ℕ, zero, suc, ◌+◌, ◌-◌, ◌*◌, ◌^◌, ◌<◌, ◌≤◌, Bool, true, false, cond, List, [], ◌∷◌, ◌++◌, length, get_or, Some, None, decimal, Option, sym, refl, ap, ◌∙◌, subst, ap₂, sub-one, arith, rules}
+use Rattle.std.proofs.Common.{◌≡◌, ℕ, zero, suc, ◌+◌, ◌-◌, ◌*◌, ◌^◌, ◌<◌, ◌≤◌, Bool, true, false, List, [], ◌∷◌, ◌++◌, length, get_or, Some, None, Ok, Err, decimal, Option, Result, sym, refl, ap, ◌∙◌, subst, ap₂, sub-one, arith, rules}
 use native.Mathlib.Nat.{pow-le-pow_right}
 use Rattle.std.specs.Option.{option_map}
 use Rattle.std.specs.Str.{all_ascii_digits}
@@ -9,8 +9,11 @@ use Rattle.std.proofs.lemmas.Str.Parse.{IsNumeralModel, numerals_by_fold}
 use Rattle.std.proofs.lemmas.Bool.{cond-true, cond-false}
 use Rattle.paths.proofs.Levels.{by_first, number_lt, of_path, round_trip}
 use Rattle.paths.proofs.Values.{path-lawful}
-use Rattle.paths.specs.Notation.{only_step, read_step, read_steps, add_step, is_dot, read_path, text_of, joined, path_text}
+use Rattle.paths.specs.Notation.{only_step, read_step, read_steps, add_step, is_dot, read_path, text_of, Parsed, joined, path_text}
+use Rattle.paths.specs.declared.fault.Fault.{Fault}
+use Rattle.paths.specs.declared.fault.Fault.TheVariants.{NoPath}
 use Rattle.paths.specs.declared.path.Path.{Path}
+use Rattle.paths.specs.Parts.{MadeOf}
 use Rattle.paths.specs.Steps.{levels, is_step, is_path, number, is_number, steps}
 use Rattle.text.specs.Fields.{before_first, after_first}
 use Rattle.text.specs.Numerals.{value_after, digits_value, numeral}
@@ -171,13 +174,16 @@ read_steps_by (suc n) w t {f = f} {a = a} some weight before step is after rest 
 pub read_lt : (n k : ℕ) (t : List ℕ) → read_steps n t ≡ Some k → k < 256 ^ n
 read_lt n k t e = let w = read_written n k t e in omega (arith, number_lt n w.path w.lawful, w.number_is)
 
+-- the weight of a first step is at most that of four levels
+pub weight_most : (levels : ℕ) → levels ≤ 4 → 256 ^ (levels - 1) ≤ 256 ^ 3
+weight_most levels few =
+    let deep : levels - 1 ≤ 3 = omega arith in pow-le-pow_right {n = 256} (omega arith) deep
+
 -- a first step and what is read after it fit 32 bits
 pub steps_fit :
     (levels w x k : ℕ) → levels ≤ 4 → w ≡ 256 ^ (levels - 1) → x < 256 → k < w → x * w + k < 2 ^ 32
 steps_fit levels w x k few weight step small =
-    let deep : levels - 1 ≤ 3 = omega arith in
-    let cap : 256 ^ (levels - 1) ≤ 256 ^ 3 = pow-le-pow_right {n = 256} (omega arith) deep in
-    omega (arith, by_first w x 256 k 0 small step)
+    let most = weight_most levels few in omega (arith, by_first w x 256 k 0 small step)
 
 -- a text that begins with a digit is no dot
 not_dot : (t : List ℕ) → 48 < get_or t 0 0 → is_dot t ≡ false
@@ -235,16 +241,10 @@ none_written t unread p e =
     sym (path_read levels p.number (path-lawful p)) ∙ ap (read_path levels) e ∙ unread in
     let z : ◌≡◌ {A = ℕ} 0 1 = cc in omega arith
 
--- the path that is made of what was read is the one that is written so
-pub made-written :
-    (t : List ℕ) (m : ℕ) (o : Option Path) → read_path levels t ≡ Some m
-    → option_map (λ p. p.number) o ≡ cond (is_number levels m) (Some m) None
-    → (o ≡ None → ⊥) × ((p : Path) → o ≡ Some p → text_of p ≡ t)
-made-written t m o read made =
-    let (lawful, written) = path-written levels t m read in
-    let made' : option_map (λ p. p.number) o ≡ Some m = made ∙ cond-true (is_number levels m) (Some m) None lawful in (
-      λ none. (let clash : Some m ≡ None = sym made' ∙ ap (option_map (λ p. p.number)) none in
-          let z : ◌≡◌ {A = ℕ} 0 1 = cc in omega arith),
-      λ p is. (let same : Some p.number ≡ Some m = sym (ap (option_map (λ q. q.number)) is) ∙ made' in
-          let number : p.number ≡ m = cc in ap (λ k. path_text (steps levels k)) number ∙ written),
-    )
+-- what is made of the number that was read is the path that is written so
+pub parsed_from-made :
+    (t : List ℕ) (m : ℕ) (r : Result Path Fault) → read_path levels t ≡ Some m
+    → MadeOf (λ p. p.number) m (is_number levels m) NoPath r → Parsed t r
+parsed_from-made t m (Ok p) read made =
+    ap (λ k. path_text (steps levels k)) made.1 ∙ (path-written levels t m read).1
+parsed_from-made t m (Err f) read made = absurd (search (rules, (path-written levels t m read).0, made.0))

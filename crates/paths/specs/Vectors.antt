@@ -1,5 +1,5 @@
 -- Version vectors: a place for each panel, from panel 1 on. Places that a list lacks count as 0.
-use Rattle.std.specs.Prelude.{ℕ, zero, suc, ◌-◌, min, max, Bool, true, ◌&&◌, List, [], ◌∷◌, nat_le, slice_index}
+use Rattle.std.specs.Prelude.{◌≡◌, ◌<◌, length, ℕ, zero, suc, ◌-◌, min, max, Bool, true, ◌&&◌, List, [], ◌∷◌, nat_le, slice_index}
 
 -- what the vector v has for panel k
 abbrev pub place : List ℕ → ℕ → ℕ
@@ -20,6 +20,11 @@ place_by_place f [] [] = []
 place_by_place f [] (y ∷ w) = f 0 y ∷ place_by_place f [] w
 place_by_place f (x ∷ v) [] = f x 0 ∷ place_by_place f v []
 place_by_place f (x ∷ v) (y ∷ w) = f x y ∷ place_by_place f v w
+
+-- R tells of each place of v and w what stands in the same place of u
+pub record EachPlace (R : ℕ → ℕ → ℕ → Type 0) (v w u : List ℕ) : Type 0 where
+  pub long : length u ≡ 8
+  pub at : (k : ℕ) → k < 8 → R (slice_index v k) (slice_index w k) (slice_index u k)
 
 abbrev pub greater : List ℕ → List ℕ → List ℕ
 greater = place_by_place max

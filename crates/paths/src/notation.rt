@@ -34,18 +34,17 @@ impl fmt::Display for Stamp {
     }
 }
 
-impl Path {
-    // The path that is written so.
-    pub fn parse(text: &[u8]) -> Result<Path, Fault>
-        ensures { Parsed text.now result }
-    {
+// The path that is written so.
+impl<'a> TryFrom<&'a [u8]> for Path {
+    type Error = Fault;
+
+    ghost try_from_gives = { λ text r. Parsed text.now r };
+
+    fn try_from(text: &'a [u8]) -> Result<Path, Fault> {
         let Some(number) = path_number(text) else {
             return Err(Fault::NoPath);
         };
-        let Some(path) = Path::of_number(number) else {
-            return Err(Fault::NoPath);
-        };
-        Ok(path)
+        Path::try_from(number)
     }
 }
 
@@ -73,12 +72,7 @@ fn weight(n: usize) -> u32
     requires { (1 ≤ n) × (n ≤ levels) }
     ensures { result ≡ 256 ^ (n - 1) }
 {
-    match n {
-        1 => 1,
-        2 => 0x100,
-        3 => 0x1_0000,
-        _ => 0x100_0000,
-    }
+    256u32.pow(n as u32 - 1)
 }
 
 // The number of the steps that a text writes, at least one and at most n.

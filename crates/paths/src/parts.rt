@@ -1,13 +1,15 @@
 // Values from the plain numbers that a caller hands in: lawful ones, or a refusal.
 ghost use Rattle.std.specs.Prelude.{◌≡◌, not};
 ghost use Rattle.std.specs.Option.{option_map};
-ghost use Rattle.paths.specs.declared.fault.Fault.TheVariants.{OutOfRange};
+ghost use Rattle.paths.specs.declared.fault.Fault.TheVariants.{NoPath, OutOfRange};
 ghost use Rattle.paths.specs.Faults.{nowhere};
 ghost use Rattle.paths.specs.Parts.{MadeOf, stamp_parts, lawful_stamp, knobs_parts, lawful_knobs, grade_parts, lawful_grade, in_range, range_error, some_set, setting_parts, lawful_setting};
 ghost use Rattle.paths.specs.Ranges.{is_knob, is_panel, is_time};
+ghost use Rattle.paths.specs.Steps.{levels, is_number};
 
 use crate::fault::{Fault, Site};
 use crate::grade::{Grade, GradeParts, Knob, Knobs, Setting, SettingParts};
+use crate::path::{Path, bytes_of};
 use crate::stamp::{Panel, Stamp, StampParts, Time};
 
 // A number is out of its range.
@@ -19,6 +21,25 @@ impl From<RangeError> for Fault {
 
     fn from(_: RangeError) -> Fault {
         Fault::OutOfRange(Site::nowhere())
+    }
+}
+
+// The path that has this number, if any has: no step follows a missing one.
+impl TryFrom<u32> for Path {
+    type Error = Fault;
+
+    ghost try_from_gives = { λ n r. MadeOf (λ p. p.number) n (is_number levels n) NoPath r };
+
+    fn try_from(number: u32) -> Result<Path, Fault> {
+        let [reel, scene, shot, node] = bytes_of(number);
+        let gap = (reel == 0 && scene != 0)
+            || (scene == 0 && shot != 0)
+            || (shot == 0 && node != 0);
+        if gap {
+            Err(Fault::NoPath)
+        } else {
+            Ok(Path { number })
+        }
     }
 }
 

@@ -25,17 +25,6 @@ impl Path {
         Path { number: 0 }
     }
 
-    // The path that has this number, if any has.
-    pub fn of_number(number: u32) -> Option<Path>
-        ensures { option_map (λ p. p.number) result ≡ (if is_number levels number then Some number else None) }
-    {
-        let [reel, scene, shot, node] = bytes_of(number);
-        let gap = (reel == 0 && scene != 0)
-            || (scene == 0 && shot != 0)
-            || (shot == 0 && node != 0);
-        if gap { None } else { Some(Path { number }) }
-    }
-
     // How many steps it has.
     pub fn depth(self) -> usize
         ensures { result ≡ depth levels self.number }

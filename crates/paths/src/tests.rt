@@ -1,5 +1,5 @@
 // The examples of docs/, run.
-use crate::fault::{Cause, Fault, Site, StoreFault};
+use crate::fault::{Cause, Fault, Refusal, Site, StoreFault};
 use crate::grade::{Setting, SettingParts};
 use crate::path::Path;
 use crate::stamp::{Panel, Stamp, Time};
@@ -7,7 +7,7 @@ use crate::vector::Vector;
 use std::test::Fail;
 
 fn number_of(text: &[u8]) -> u32 {
-    match Path::parse(text) {
+    match Path::try_from(text) {
         Ok(path) => path.number,
         Err(_) => 0xffff_ffff,
     }
@@ -18,7 +18,7 @@ fn paths_have_numbers(rt: HostRuntime) {
     assert!(rt; number_of(b".") == 0);
     assert!(rt; number_of(b"3/1") == 0x0301_0000);
     assert!(rt; number_of(b"3/1/4/255") == 0x0301_04ff);
-    assert!(rt; Path::of_number(0x0300_0100).is_none());
+    assert!(rt; Path::try_from(0x0300_0100u32).is_err());
 }
 
 #[test]
@@ -34,7 +34,7 @@ fn other_texts_are_no_paths(rt: HostRuntime) {
         b"3 /1",
     ];
     for text in texts {
-        assert!(rt; Path::parse(text).is_err());
+        assert!(rt; Path::try_from(text).is_err());
     }
 }
 
@@ -88,9 +88,9 @@ fn refusals_have_their_numbers(rt: HostRuntime) -> Result<(), Fail> {
         cause: Cause::Full,
         height: 2,
     };
-    assert!(rt; Fault::NoPath.refusal().number == 1);
-    assert!(rt; Fault::Store(site, full).refusal().number == 8);
-    assert!(rt; Fault::BadJournal { place: 14 }.refusal().place == Some(14));
+    assert!(rt; Refusal::from(Fault::NoPath).number == 1);
+    assert!(rt; Refusal::from(Fault::Store(site, full)).number == 8);
+    assert!(rt; Refusal::from(Fault::BadJournal { place: 14 }).place == Some(14));
     let knobs = SettingParts {
         lift: None,
         gamma: Some(1001),
@@ -100,7 +100,7 @@ fn refusals_have_their_numbers(rt: HostRuntime) -> Result<(), Fail> {
     match Setting::of_parts(knobs, site) {
         Ok(_) => Err(Fail::new("a knob of 1001 was taken")),
         Err(fault) => {
-            assert!(rt; fault.refusal().number == 3);
+            assert!(rt; Refusal::from(fault).number == 3);
             Ok(())
         },
     }

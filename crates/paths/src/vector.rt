@@ -1,16 +1,17 @@
 // Version vectors: what a panel knows of the acts of each of the eight panels.
 ghost use Rattle.std.specs.Prelude.{◌≡◌, min, max};
-ghost use Rattle.paths.specs.Vectors.{place, with_place, greater as greater_places, lesser as lesser_places, at_most, known};
+ghost use Rattle.paths.specs.Vectors.{place, with_place, EachPlace, greater as greater_places, lesser as lesser_places, at_most, known};
 
 use crate::stamp::{Panel, Stamp};
+use std::array;
 
-#[derive(Clone, Copy)]
+#[derive(Clone, Copy, PartialEq, Eq)]
 pub struct Vector {
     pub places: [u32; Panel::COUNT],
 }
 
 // Place by place, the least and the greatest of some vectors.
-#[derive(Clone, Copy)]
+#[derive(Clone, Copy, PartialEq, Eq)]
 pub struct Bounds {
     pub least: Vector,
     pub greatest: Vector,
@@ -39,38 +40,35 @@ impl Vector {
         Vector { places }
     }
 
+    // What the rule makes of each place of both.
+    fn zip_with<F: Fn(u32, u32) -> u32>(self, other: Vector, rule: F) -> Vector
+        requires { F.IsAlwaysCallable rule }
+        ensures { EachPlace (F.post rule) self.places other.places result.places }
+    {
+        Vector {
+            places: array::from_fn(|i| rule(self.places[i], other.places[i])),
+        }
+    }
+
     // Place by place, the greater of both.
     pub fn greater(self, other: Vector) -> Vector
         ensures { result.places ≡ greater_places self.places other.places }
     {
-        let mut places = self.places;
-        for i in 0..Panel::COUNT {
-            places[i] = greater_place(self.places[i], other.places[i]);
-        }
-        Vector { places }
+        self.zip_with(other, |a, b| greater_place(a, b))
     }
 
     // Place by place, the lesser of both.
     pub fn lesser(self, other: Vector) -> Vector
         ensures { result.places ≡ lesser_places self.places other.places }
     {
-        let mut places = self.places;
-        for i in 0..Panel::COUNT {
-            places[i] = self.places[i].min(other.places[i]);
-        }
-        Vector { places }
+        self.zip_with(other, |a, b| a.min(b))
     }
 
     // Whether no place passes the same place of the other.
     pub fn at_most(self, other: Vector) -> bool
         ensures { result ≡ at_most self.places other.places }
     {
-        for i in 0..Panel::COUNT {
-            if self.places[i] > other.places[i] {
-                return false;
-            }
-        }
-        true
+        self.places.iter().zip(&other.places).all(|(a, b)| a <= b)
     }
 
     // Whether the act of this stamp has arrived.

@@ -4,7 +4,6 @@ use Rattle.std.specs.Char.{is_ascii_digit}
 use Rattle.std.specs.Str.{all_ascii_digits}
 use Rattle.std.proofs.lemmas.List.{drop_more, drop_all}
 use Rattle.std.proofs.lemmas.Bool.{cond-true, cond-false}
-use Rattle.std.proofs.lemmas.Bool.Decides.{nat_tests}
 use Rattle.text.specs.Numerals.{value_after, digits_value}
 
 -- what is read so far, n, and then the rest is the whole, up to the cap
@@ -21,11 +20,10 @@ capped_alike [] m n e = e
 capped_alike (c ∷ cs) m n e = capped_alike cs (m * 10 + (c - 48)) (n * 10 + (c - 48)) (omega arith)
 
 pub reading_more :
-    (text : List ℕ) (i n m : ℕ) → i < length text → 48 ≤ get_or text i 0 → get_or text i 0 ≤ 57
+    (text : List ℕ) (i n m : ℕ) → i < length text → is_ascii_digit (get_or text i 0) ≡ true
     → m ≡ min (n * 10 + (get_or text i 0 - 48)) (2 ^ 64 - 1) → Reading text i n → Reading text (i + 1) m
-reading_more text i n m lt low high e so_far =
+reading_more text i n m lt digit e so_far =
     let more = drop_more text i 0 lt in
-    let digit : is_ascii_digit (get_or text i 0) ≡ true = grind (arith, nat_tests) in
     record {
       small = omega arith;
       value =

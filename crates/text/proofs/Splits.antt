@@ -1,43 +1,37 @@
--- The first mark in a text, met byte by byte.
-use Rattle.std.proofs.Common.{◌≡◌, ℕ, ◌+◌, ◌<◌, ◌≤◌, true, false, eqb, List, [], ◌∷◌, ◌++◌, length, get_or, take, drop, Some, None, sym, ap, ◌∙◌, ap₂, append_assoc}
-use Rattle.std.proofs.lemmas.List.{append-nil, drop_more, drop_all, take_more, take_all}
-use Rattle.std.proofs.lemmas.Bool.{cond-true, cond-false}
-use Rattle.text.specs.Fields.{before_first, after_first}
+-- The first mark in a text.
+use Rattle.std.proofs.Common.{◌≡◌, ◌≢◌, ℕ, zero, suc, ◌+◌, ◌<◌, eqb, List, [], ◌∷◌, length, get_or, drop, Some, None, Option, MatchOption, sym, refl, ap, ◌∙◌, suc-le-suc, arith}
+use Rattle.std.proofs.lemmas.Bool.{cond-true, cond-false, eq-eqb, ne_eqb}
+use Rattle.text.specs.Fields.{Marked}
 
--- the first i bytes of the text stand before the mark
-pub record Passed (mark : ℕ) (text : List ℕ) (i : ℕ) : Type 0 where
-  pub before : before_first mark text ≡ take i text ++ before_first mark (drop i text)
-  pub after : after_first mark text ≡ after_first mark (drop i text)
+unmarked : (b : ℕ) (xs : List ℕ) → ((k : ℕ) → k < length xs → get_or xs k 0 ≢ b) → Marked b xs None
+unmarked b [] others = (refl, refl)
+unmarked b (x ∷ xs) others =
+    let differs = ne_eqb x b (others 0 (omega arith)) in
+    let rest = unmarked b xs (λ k lt. others (suc k) (suc-le-suc lt)) in (
+      ap (λ t. x ∷ t) rest.0 ∙ sym (cond-false (eqb x b) [] _ differs),
+      rest.1 ∙ sym (cond-false (eqb x b) (Some xs) _ differs),
+    )
 
-module _ (mark : ℕ) (text : List ℕ) (i : ℕ) where
-  pub passed_more : i < length text → eqb (get_or text i 0) mark ≡ false → Passed mark text i → Passed mark text (i + 1)
-  passed_more lt other so_far =
-      let more = drop_more text i 0 lt in
-      record {
-        before =
-            so_far.before ∙ ap (λ t. take i text ++ before_first mark t) more
-            ∙ ap (λ t. take i text ++ t) (cond-false (eqb (get_or text i 0) mark) [] _ other)
-            ∙ sym (append_assoc (take i text) (get_or text i 0 ∷ []) (before_first mark (drop (i + 1) text)))
-            ∙ ap (λ t. t ++ before_first mark (drop (i + 1) text)) (sym (take_more text i 0 lt));
-        after = so_far.after ∙ ap (after_first mark) more ∙ cond-false (eqb (get_or text i 0) mark) (Some _) _ other;
-      }
+marked :
+    (b : ℕ) (xs : List ℕ) (i : ℕ) → i < length xs → get_or xs i 0 ≡ b → ((k : ℕ) → k < i → get_or xs k 0 ≢ b)
+    → Marked b xs (Some i)
+marked b [] i lt here others = absurd (omega arith)
+marked b (x ∷ xs) zero lt here others =
+    (lt, sym (cond-true (eqb x b) [] _ (eq-eqb x b here)), sym (cond-true (eqb x b) (Some xs) _ (eq-eqb x b here)))
+marked b (x ∷ xs) (suc i) lt here others =
+    let differs = ne_eqb x b (others 0 (omega arith)) in
+    let rest = marked b xs i (omega arith) here (λ k below. others (suc k) (suc-le-suc below)) in
+    let one_more : suc i + 1 ≡ suc (i + 1) = omega arith in (
+      lt,
+      ap (λ t. x ∷ t) rest.1 ∙ sym (cond-false (eqb x b) [] _ differs),
+      ap (λ k. Some (drop k (x ∷ xs))) one_more ∙ rest.2 ∙ sym (cond-false (eqb x b) (Some xs) _ differs),
+    )
 
-  pub passed_found :
-      i < length text → eqb (get_or text i 0) mark ≡ true → Passed mark text i
-      → (take i text ≡ before_first mark text) × (Some (drop (i + 1) text) ≡ after_first mark text)
-  passed_found lt here so_far =
-      let more = drop_more text i 0 lt in (
-        sym
-            (so_far.before ∙ ap (λ t. take i text ++ before_first mark t) more
-            ∙ ap (λ t. take i text ++ t) (cond-true (eqb (get_or text i 0) mark) [] _ here) ∙ append-nil (take i text)),
-        sym (so_far.after ∙ ap (after_first mark) more ∙ cond-true (eqb (get_or text i 0) mark) (Some _) _ here),
-      )
-
-  pub passed_all :
-      length text ≤ i → Passed mark text i → (text ≡ before_first mark text) × (None ≡ after_first mark text)
-  passed_all end so_far =
-      let none = drop_all i text end in (
-        sym
-            (so_far.before ∙ ap₂ (λ s t. s ++ before_first mark t) (take_all i text end) none ∙ append-nil text),
-        sym (so_far.after ∙ ap (after_first mark) none),
-      )
+-- what a look at byte after byte finds
+pub found :
+    (b : ℕ) (xs : List ℕ) (r : Option ℕ)
+    → MatchOption r ((k : ℕ) → k < length xs → get_or xs k 0 ≢ b)
+    (λ i. (i < length xs) × (get_or xs i 0 ≡ b) × ((k : ℕ) → k < i → get_or xs k 0 ≢ b))
+    → Marked b xs r
+found b xs None others = unmarked b xs others
+found b xs (Some i) at = marked b xs i at.0 at.1 at.2

@@ -12,7 +12,7 @@ fn digits_value(text: &[u8]) -> Option<u64>
 {
     let mut number: u64 = 0;
     for digit in text {
-        if *digit < b'0' || *digit > b'9' {
+        if !digit.is_ascii_digit() {
             return None;
         }
         number = number
@@ -37,12 +37,7 @@ pub fn read_number(text: &[u8]) -> Option<u64>
 fn first_mark(text: &[u8], mark: u8) -> Option<usize>
     ensures { Marked mark text.now result }
 {
-    for (i, b) in text.iter().enumerate() {
-        if *b == mark {
-            return Some(i);
-        }
-    }
-    None
+    text.iter().position(|byte| *byte == mark)
 }
 
 // What stands before the first byte that equals `mark`, and what after it, if there is one.

@@ -1,8 +1,6 @@
-use Rattle.std.proofs.Common.{max, arith}
-use Rattle.paths.proofs.Places.{joined_by_places}
+use Rattle.std.proofs.Common.{rules, max, arith}
+use Rattle.paths.proofs.Places.{joined_by_rule}
 use Rattle.paths.proofs.vector.Vector.greater.Goals as goal
 
 pub returns : goal.returns
-returns c =
-    joined_by_places max c.loop-i.places c.args.self.places c.args.other.places (omega arith) (omega arith)
-    (λ k lt. c.loop-i.invariant.1 k (omega arith))
+returns c = joined_by_rule max _ _ _ (omega arith) (omega arith) c.zip_with.ensures (λ x y z made. search rules)

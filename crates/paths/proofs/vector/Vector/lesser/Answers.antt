@@ -1,8 +1,6 @@
-use Rattle.std.proofs.Common.{min, arith}
-use Rattle.paths.proofs.Places.{joined_by_places}
+use Rattle.std.proofs.Common.{rules, min, arith}
+use Rattle.paths.proofs.Places.{joined_by_rule}
 use Rattle.paths.proofs.vector.Vector.lesser.Goals as goal
 
 pub returns : goal.returns
-returns c =
-    joined_by_places min c.loop-i.places c.args.self.places c.args.other.places (omega arith) (omega arith)
-    (λ k lt. c.loop-i.invariant.1 k (omega arith))
+returns c = joined_by_rule min _ _ _ (omega arith) (omega arith) c.zip_with.ensures (λ x y z made. search rules)
