@@ -4,7 +4,7 @@ use Rattle.std.proofs.lemmas.Bool.{and_parts, cond-true, cond-false, cond_both, 
 use Rattle.paths.proofs.Values.{path-lawful}
 use Rattle.paths.specs.Steps.{levels, is_number, covers, parent}
 use Rattle.paths.specs.Vectors.{with_place, greater, same_places}
-use Rattle.paths.specs.declared.grade.Grade.{Grade}
+use Rattle.paths.specs.Values.{Grade}
 use Rattle.paths.specs.declared.path.Path.{Path}
 use Rattle.stores.proofs.Entries.{lookup-before, lookup-put, lookup-drop}
 use Rattle.stores.specs.Climb.{first_of}

@@ -3,7 +3,7 @@ use Rattle.std.proofs.Common.{◌≡◌, ℕ, ◌+◌, ◌≤◌, Bool, true, fa
 use Rattle.std.proofs.lemmas.Bool.{and_parts, cond_both, or_left, or_right}
 use Rattle.paths.specs.Steps.{levels, covers, parent}
 use Rattle.paths.specs.Vectors.{greater, same_places}
-use Rattle.paths.specs.declared.grade.Grade.{Grade}
+use Rattle.paths.specs.Values.{Grade}
 use Rattle.paths.specs.declared.path.Path.{Path}
 use Rattle.stores.proofs.Entries.{put-rises, drop-rises}
 use Rattle.stores.proofs.Kept.{is_bare, bare-put, bare-drop, lawful_with}

@@ -5,7 +5,7 @@ use Rattle.paths.proofs.Levels.{all-covered, depth_le, depth-parent}
 use Rattle.paths.proofs.Places.{at_most_itself, at_most_through}
 use Rattle.paths.specs.Steps.{levels, is_number, parent, depth}
 use Rattle.paths.specs.Vectors.{put_at, with_place, at_most, same_places}
-use Rattle.paths.specs.declared.grade.Grade.{Grade}
+use Rattle.paths.specs.Values.{Grade}
 use Rattle.stores.proofs.Bounds.{nearest-here, nearest_above}
 use Rattle.stores.specs.Meaning.{Model, Lawful, is_leaf, nearest, with_entries}
 use Rattle.stores.specs.Slots.{lookup}

@@ -2,7 +2,7 @@
 use Rattle.std.specs.Prelude.{◌≡◌, ℕ, ◌≤◌, true, false, cond, List, length, Some, None, Option, ◌==◌}
 use Rattle.paths.specs.Steps.{levels, is_number, covers}
 use Rattle.paths.specs.Vectors.{greater, with_place, same_places}
-use Rattle.paths.specs.declared.grade.Grade.{Grade}
+use Rattle.paths.specs.Values.{Grade}
 use Rattle.paths.specs.declared.path.Path.{Path}
 use Rattle.stores.specs.Meaning.{Model, Lawful, is_leaf, is_full, with_entries, put_model}
 use Rattle.engine.specs.Acts.{after_removal}

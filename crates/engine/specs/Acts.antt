@@ -8,11 +8,7 @@ use Rattle.paths.specs.declared.fault.Cause.{Cause}
 use Rattle.paths.specs.declared.fault.Cause.TheVariants.{Full, LastTime}
 use Rattle.paths.specs.declared.fault.Fault.{Fault}
 use Rattle.paths.specs.declared.fault.Fault.TheVariants.{NoLeaf, OutOfRange, NothingToRemove, Store}
-use Rattle.paths.specs.declared.grade.Grade.{Grade}
-use Rattle.paths.specs.declared.parts.GradeParts.{GradeParts}
-use Rattle.paths.specs.declared.parts.KnobsParts.{KnobsParts}
-use Rattle.paths.specs.declared.parts.SettingParts.{SettingParts}
-use Rattle.paths.specs.declared.parts.StampParts.{StampParts}
+use Rattle.paths.specs.Values.{Grade, GradeParts, KnobsParts, SettingParts, StampParts}
 use Rattle.paths.specs.declared.path.Path.{Path}
 use Rattle.stores.specs.Climb.{first_of}
 use Rattle.stores.specs.Meaning.{Model, is_leaf, is_full, at_last, with_entries, put_model, tick_model}

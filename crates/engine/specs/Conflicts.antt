@@ -7,11 +7,8 @@ use Rattle.paths.specs.Vectors.{greater, same_places}
 use Rattle.paths.specs.declared.fault.Cause.TheVariants.{Full, LastTime}
 use Rattle.paths.specs.declared.fault.Fault.{Fault}
 use Rattle.paths.specs.declared.fault.Fault.TheVariants.{NoLeaf, OutOfRange, SamePanel, NoConflict, StaleConflict}
-use Rattle.paths.specs.declared.grade.Grade.{Grade}
-use Rattle.paths.specs.declared.parts.GradeParts.{GradeParts}
-use Rattle.paths.specs.declared.parts.KnobsParts.{KnobsParts}
+use Rattle.paths.specs.Values.{Grade, GradeParts, KnobsParts, Stamp}
 use Rattle.paths.specs.declared.path.Path.{Path}
-use Rattle.paths.specs.declared.stamp.Stamp.{Stamp}
 use Rattle.stores.specs.Climb.{first_of}
 use Rattle.stores.specs.Meaning.{Model, is_leaf, is_full, at_last, with_entries, tick_model}
 use Rattle.stores.specs.Slots.{put, drop}

@@ -4,7 +4,7 @@ use Rattle.std.specs.Option.{option_map}
 use Rattle.paths.specs.Vectors.{with_place, same_places}
 use Rattle.paths.specs.declared.fault.Fault.{Fault}
 use Rattle.paths.specs.declared.fault.Site.{Site}
-use Rattle.paths.specs.declared.grade.Grade.{Grade}
+use Rattle.paths.specs.Values.{Grade}
 use Rattle.paths.specs.declared.path.Path.{Path}
 use Rattle.stores.specs.Meaning.{Model, nearest}
 use Rattle.stores.specs.Slots.{lookup}

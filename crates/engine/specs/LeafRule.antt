@@ -2,8 +2,7 @@
 use Rattle.std.specs.Prelude.{ℕ, Bool, cond, not, ◌&&◌, ◌||◌, List, Some, None, Option, ◌==◌}
 use Rattle.paths.specs.Parts.{stamp_parts}
 use Rattle.paths.specs.Vectors.{known}
-use Rattle.paths.specs.declared.grade.Grade.{Grade}
-use Rattle.paths.specs.declared.parts.StampParts.{StampParts}
+use Rattle.paths.specs.Values.{Grade, StampParts}
 use Rattle.engine.specs.declared.leaf.Kind.{Kind}
 use Rattle.engine.specs.declared.leaf.Kind.TheVariants.{Concurrent, Tangled, RemovedAtDestination, RemovedAtSource}
 use Rattle.engine.specs.declared.leaf.Outcome.{Outcome}

@@ -5,7 +5,7 @@ use Rattle.paths.specs.Vectors.{greater, at_most}
 use Rattle.paths.specs.declared.fault.Cause.TheVariants.{Full}
 use Rattle.paths.specs.declared.fault.Fault.{Fault}
 use Rattle.paths.specs.declared.fault.Fault.TheVariants.{SamePanel, ShortWorkList, ShortReport}
-use Rattle.paths.specs.declared.grade.Grade.{Grade}
+use Rattle.paths.specs.Values.{Grade}
 use Rattle.paths.specs.declared.path.Path.{Path}
 use Rattle.stores.specs.Climb.{first_of, climb}
 use Rattle.stores.specs.Meaning.{Model, is_leaf, least_at, greatest_at, with_entries}

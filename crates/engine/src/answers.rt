@@ -1,6 +1,6 @@
 // What the calls are handed and what they answer.
 use crate::leaf::Kind;
-use paths::parts::SettingParts;
+use paths::grade::SettingParts;
 use paths::path::Path;
 use paths::stamp::{Panel, Stamp};
 

@@ -1,7 +1,6 @@
 -- One panel at one leaf makes an act: what it has then.
 use Rattle.std.proofs.Common.{◌≡◌, ◌⊎◌, List, [], ◌∷◌, Some, Option, sym, refl, ap, ◌∙◌, subst, inl, inr}
-use Rattle.paths.specs.declared.parts.GradeParts.{GradeParts}
-use Rattle.paths.specs.declared.parts.StampParts.{StampParts}
+use Rattle.paths.specs.Values.{GradeParts, StampParts}
 use Rattle.history.specs.History.{Act, stamps, with_act}
 use Rattle.history.proofs.Reaching.{In, Reached, Overruled, in_front, in_behind, in_either, in_stamps, stamps_in, once-both}
 use Rattle.history.proofs.Sides.{Born, EndsBy, Formed, Held}

@@ -4,8 +4,7 @@ use Rattle.std.specs.Option.{option_map}
 use Rattle.std.proofs.lemmas.Bool.{and_parts, both_ways, not-false, ne_eqb, false≢true}
 use Rattle.paths.specs.Parts.{grade_parts, knobs_parts}
 use Rattle.paths.specs.Vectors.{greater, place, same_places}
-use Rattle.paths.specs.declared.grade.Grade.{Grade}
-use Rattle.paths.specs.declared.parts.GradeParts.{GradeParts}
+use Rattle.paths.specs.Values.{Grade, GradeParts}
 use Rattle.paths.specs.declared.path.Path.{Path}
 use Rattle.paths.specs.Steps.{levels, parent}
 use Rattle.stores.proofs.Entries.{put_count, drop-count}

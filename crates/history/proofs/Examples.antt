@@ -2,12 +2,10 @@
 use Rattle.std.proofs.Common.{◌≡◌, ℕ, true, false, T, leb, List, [], ◌∷◌, pos, Some, None, Option, refl, lit≤}
 use lib.Signed.{le_z_yes}
 use Rattle.paths.specs.Vectors.{with_place}
-use Rattle.paths.specs.declared.grade.Grade.{Grade}
+use Rattle.paths.specs.Values.{Grade, SettingParts, Stamp}
 use Rattle.paths.specs.declared.grade.Knob.{Knob}
-use Rattle.paths.specs.declared.parts.SettingParts.{SettingParts}
 use Rattle.paths.specs.declared.path.Path.{Path}
 use Rattle.paths.specs.declared.stamp.Panel.{Panel}
-use Rattle.paths.specs.declared.stamp.Stamp.{Stamp}
 use Rattle.stores.specs.Climb.{climb, climb_by}
 use Rattle.stores.specs.Making.{blank}
 use Rattle.stores.specs.Meaning.{Model, nearest, least_at, greatest_at, with_entries, put_model, tick_model}

@@ -1,8 +1,7 @@
 -- Two panels at one leaf: what the one's acts leave where the other's arrive.
 use Rattle.std.proofs.Common.{◌≡◌, Bool, true, false, not, ◌&&◌, ◌⊎◌, List, Some, None, Option, sym, refl, ap, ◌∙◌, subst, ap₂, inl, inr}
 use Rattle.std.proofs.lemmas.Bool.{and_parts, and_from, both_ways, not-true, not-false, or_cases, or_left, or_right, false≢true, true≢false}
-use Rattle.paths.specs.declared.parts.GradeParts.{GradeParts}
-use Rattle.paths.specs.declared.parts.StampParts.{StampParts}
+use Rattle.paths.specs.Values.{GradeParts, StampParts}
 use Rattle.engine.specs.LeafRule.{same_stamp}
 use Rattle.history.specs.History.{Act, reached, overruled, differ, is_overruled, not_overruled, birth_shared, prevails_over}
 use Rattle.history.proofs.Reaching.{

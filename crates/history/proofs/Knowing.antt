@@ -1,7 +1,7 @@
 -- One leaf on all panels: an act has reached a panel exactly if its time is at most the panel's place for it.
 use Rattle.std.proofs.Common.{◌≡◌, ℕ, ◌+◌, ◌<◌, ◌≤◌, max, Bool, true, false, leb, ◌⊎◌, List, ◌++◌, sym, refl, ap, ◌∙◌, subst, inl, inr, arith}
 use Rattle.std.proofs.lemmas.Bool.{both_ways, cases_eq, cases_lt, le-leb, leb-true}
-use Rattle.paths.specs.declared.parts.StampParts.{StampParts}
+use Rattle.paths.specs.Values.{StampParts}
 use Rattle.history.specs.History.{Act, reached, arrived}
 use Rattle.history.proofs.Reaching.{
   In,

@@ -1,7 +1,7 @@
 -- Members of lists of acts, and what the tests on stamps tell.
 use Rattle.std.proofs.Common.{◌≡◌, Bool, true, false, cond, not, eqb, ◌⊎◌, List, [], ◌∷◌, ◌++◌, filter, sym, refl, ap, ◌∙◌, subst, ap₂, inl, inr, append-nil}
 use Rattle.std.proofs.lemmas.Bool.{and_parts, and_from, both_ways, eqb-true, eq-eqb, or_cases, or_left, or_right, cond-false, false≢true, not-true}
-use Rattle.paths.specs.declared.parts.StampParts.{StampParts}
+use Rattle.paths.specs.Values.{StampParts}
 use Rattle.engine.specs.LeafRule.{same_stamp}
 use Rattle.history.specs.History.{Act, among, stamps, reached, overruled, arrived}
 

@@ -2,8 +2,7 @@
 use Rattle.std.proofs.Common.{◌≡◌, ℕ, Bool, true, false, cond, not, ◌&&◌, ◌||◌, List, Some, None, Option, sym, refl, ap, ◌∙◌, subst, ap₂, arith}
 use Rattle.std.specs.Option.{option_map}
 use Rattle.std.proofs.lemmas.Bool.{both_ways}
-use Rattle.paths.specs.declared.parts.GradeParts.{GradeParts}
-use Rattle.paths.specs.declared.parts.StampParts.{StampParts}
+use Rattle.paths.specs.Values.{GradeParts, StampParts}
 use Rattle.engine.specs.Knowledge.{is_conflict}
 use Rattle.engine.specs.LeafRule.{Version, same_stamp, knows, goes_on, outcome}
 use Rattle.engine.specs.declared.leaf.Kind.TheVariants.{Concurrent, Tangled, RemovedAtDestination, RemovedAtSource}

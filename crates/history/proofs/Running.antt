@@ -6,7 +6,7 @@ use Rattle.paths.proofs.Places.{at_most_at}
 use Rattle.paths.specs.Parts.{grade_parts}
 use Rattle.paths.specs.Steps.{levels, is_number, covers}
 use Rattle.paths.specs.Vectors.{place}
-use Rattle.paths.specs.declared.parts.GradeParts.{GradeParts}
+use Rattle.paths.specs.Values.{GradeParts}
 use Rattle.paths.specs.declared.path.Path.{Path}
 use Rattle.stores.proofs.Bounds.{bounds}
 use Rattle.stores.specs.Climb.{climb, climb_by}

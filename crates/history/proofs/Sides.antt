@@ -1,8 +1,7 @@
 -- One panel at one leaf: acts that hang together, and the grade that they leave.
 use Rattle.std.proofs.Common.{◌≡◌, ◌≤◌, true, not, ◌⊎◌, List, [], ◌∷◌, length, is_some as option_is_some, Some, None, Option, sym, refl, ap, ◌∙◌, inl, inr, arith}
 use Rattle.std.proofs.lemmas.Bool.{and_parts, and_from, not-true, false≢true}
-use Rattle.paths.specs.declared.parts.GradeParts.{GradeParts}
-use Rattle.paths.specs.declared.parts.StampParts.{StampParts}
+use Rattle.paths.specs.Values.{GradeParts, StampParts}
 use Rattle.history.specs.History.{Act, overruled, stands, standing, first_set, side}
 use Rattle.history.specs.Law.{Follows}
 use Rattle.history.proofs.Reaching.{In, Reached, Overruled, Once, kept_in, in_kept, kept-once, overruled_is, not_overruled, false_from}

@@ -3,10 +3,7 @@ use Rattle.std.proofs.Common.{◌≡◌, ℕ, ◌+◌, ◌≤◌, max, Bool, tru
 use Rattle.std.proofs.lemmas.Bool.{cases_eq, cond-true, cond-false, eq-eqb, ne_eqb, eqb-true}
 use Rattle.paths.specs.Steps.{levels, covers}
 use Rattle.paths.specs.Vectors.{greater, place}
-use Rattle.paths.specs.declared.parts.GradeParts.{GradeParts}
-use Rattle.paths.specs.declared.parts.KnobsParts.{KnobsParts}
-use Rattle.paths.specs.declared.parts.SettingParts.{SettingParts}
-use Rattle.paths.specs.declared.parts.StampParts.{StampParts}
+use Rattle.paths.specs.Values.{GradeParts, KnobsParts, SettingParts, StampParts}
 use Rattle.paths.specs.declared.path.Path.{Path}
 use Rattle.stores.specs.Meaning.{Lawful}
 use Rattle.engine.specs.Acts.{next_stamp, Writes, Removes}

@@ -6,8 +6,7 @@ use Rattle.paths.proofs.Places.{at_most_at}
 use Rattle.paths.specs.Parts.{grade_parts}
 use Rattle.paths.specs.Steps.{levels, covers}
 use Rattle.paths.specs.Vectors.{greater, same_places}
-use Rattle.paths.specs.declared.grade.Grade.{Grade}
-use Rattle.paths.specs.declared.parts.GradeParts.{GradeParts}
+use Rattle.paths.specs.Values.{Grade, GradeParts}
 use Rattle.paths.specs.declared.path.Path.{Path}
 use Rattle.stores.specs.Meaning.{Lawful}
 use Rattle.engine.proofs.Keeping.{sync_keeps_lawful}

@@ -7,9 +7,7 @@ use Rattle.paths.specs.Parts.{stamp_parts, grade_parts, lawful_setting}
 use Rattle.paths.specs.Steps.{levels, covers}
 use Rattle.paths.specs.Vectors.{place, with_place, greater, at_most, same_places}
 use Rattle.paths.specs.declared.fault.Fault.{Fault}
-use Rattle.paths.specs.declared.grade.Grade.{Grade}
-use Rattle.paths.specs.declared.parts.GradeParts.{GradeParts}
-use Rattle.paths.specs.declared.parts.SettingParts.{SettingParts}
+use Rattle.paths.specs.Values.{Grade, GradeParts, SettingParts}
 use Rattle.paths.specs.declared.path.Path.{Path}
 use Rattle.stores.proofs.Kept.{lawful-put, lawful_tick}
 use Rattle.stores.specs.Climb.{first_of}

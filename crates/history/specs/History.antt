@@ -3,10 +3,7 @@
 use Rattle.std.specs.Prelude.{ℕ, ◌+◌, Bool, true, false, cond, not, ◌&&◌, ◌||◌, List, [], ◌∷◌, ◌++◌, is_some, Some, None, filter, Option, ◌==◌}
 use Rattle.std.specs.Option.{option_map, unwrap_or}
 use Rattle.paths.specs.Steps.{levels, covers}
-use Rattle.paths.specs.declared.parts.GradeParts.{GradeParts}
-use Rattle.paths.specs.declared.parts.KnobsParts.{KnobsParts}
-use Rattle.paths.specs.declared.parts.SettingParts.{SettingParts}
-use Rattle.paths.specs.declared.parts.StampParts.{StampParts}
+use Rattle.paths.specs.Values.{GradeParts, KnobsParts, SettingParts, StampParts}
 use Rattle.paths.specs.declared.path.Path.{Path}
 use Rattle.engine.specs.Acts.{filled}
 use Rattle.engine.specs.LeafRule.{same_stamp}

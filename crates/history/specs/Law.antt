@@ -3,7 +3,7 @@ use Rattle.std.specs.Prelude.{◌≡◌, ℕ, ◌≤◌, Bool, true, false, not,
 use Rattle.std.specs.Option.{option_map}
 use Rattle.paths.specs.Parts.{grade_parts}
 use Rattle.paths.specs.Steps.{levels, is_number, covers}
-use Rattle.paths.specs.declared.parts.GradeParts.{GradeParts}
+use Rattle.paths.specs.Values.{GradeParts}
 use Rattle.paths.specs.declared.path.Path.{Path}
 use Rattle.stores.specs.Meaning.{Model, is_leaf}
 use Rattle.engine.specs.Knowledge.{grade_at}

@@ -11,7 +11,7 @@ ghost use Rattle.history.specs.Runs.{Stores, OnlyAt};
 use engine::answers::{Choice, Conflict, Removal, Reported, Tally};
 use lists::FrontList;
 use paths::fault::Fault;
-use paths::parts::SettingParts;
+use paths::grade::SettingParts;
 use paths::path::Path;
 use paths::stamp::Panel;
 use stores::entry::{Entry, Slot};

@@ -1,6 +1,6 @@
 // What can be asked of panels that stand together, and what is answered.
 use engine::answers::{Choice, Conflict, Removal, Tally};
-use paths::parts::SettingParts;
+use paths::grade::SettingParts;
 use paths::path::Path;
 use paths::stamp::Panel;
 

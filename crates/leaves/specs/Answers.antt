@@ -7,7 +7,7 @@ use Rattle.paths.specs.Parts.{grade_parts, lawful_grade}
 use Rattle.paths.specs.Steps.{levels, depth}
 use Rattle.paths.specs.declared.fault.Fault.{Fault}
 use Rattle.paths.specs.declared.fault.Fault.TheVariants.{NoLeaf, OutOfRange}
-use Rattle.paths.specs.declared.parts.GradeParts.{GradeParts}
+use Rattle.paths.specs.Values.{GradeParts}
 use Rattle.paths.specs.declared.path.Path.{Path}
 use Rattle.engine.specs.LeafRule.{Version, outcome, kind_number}
 use Rattle.engine.specs.declared.leaf.Outcome.{Outcome}

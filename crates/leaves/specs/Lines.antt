@@ -1,9 +1,7 @@
 -- How a line is read: a leaf, and then of A and of B its grade, if any, and its vector, with a space between fields.
 use Rattle.std.specs.Prelude.{ℕ, zero, suc, ◌^◌, Bool, false, cond, List, [], ◌∷◌, replicate, pos, Some, None, Option, ◌==◌, nat_lt}
 use Rattle.std.specs.Option.{option_map}
-use Rattle.paths.specs.declared.parts.GradeParts.{GradeParts}
-use Rattle.paths.specs.declared.parts.KnobsParts.{KnobsParts}
-use Rattle.paths.specs.declared.parts.StampParts.{StampParts}
+use Rattle.paths.specs.Values.{GradeParts, KnobsParts, StampParts}
 use Rattle.paths.specs.declared.vector.Vector.{Vector}
 use Rattle.leaves.specs.declared.line.Line.{Line}
 use Rattle.leaves.specs.declared.line.SideParts.{SideParts}

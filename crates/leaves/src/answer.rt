@@ -8,7 +8,7 @@ ghost use Rattle.leaves.specs.Lines.{read_line};
 
 use crate::line::{SideParts, read_line};
 use engine::leaf::{Outcome, Side, decide};
-use paths::fault::{Fault, Site};
+use paths::fault::{Fault, Refusal, Site};
 use paths::grade::Grade;
 use paths::path::Path;
 use std::fmt;
@@ -28,7 +28,7 @@ pub fn answer_line(text: &[u8]) -> Answer
     let Some(line) = read_line(text) else {
         return Answer::Unread;
     };
-    match Path::parse(line.leaf) {
+    match Path::try_from(line.leaf) {
         Ok(path) => judge(path, line.a, line.b),
         Err(fault) => Answer::Refused(fault),
     }
@@ -53,7 +53,7 @@ fn side(parts: SideParts) -> Result<Side, Fault>
     ensures { MadeOf side_parts parts (lawful_side parts.grade) (OutOfRange nowhere) result }
 {
     let grade = match parts.grade {
-        Some(grade) => Some(Grade::of_parts(grade)?),
+        Some(grade) => Some(Grade::try_from(grade)?),
         None => None,
     };
     Ok(Side {
@@ -69,7 +69,7 @@ impl fmt::Display for Answer {
         match *self {
             Answer::Unread => write!(f, "?"),
             Answer::Refused(fault) => {
-                let number = fault.refusal().number;
+                let number = Refusal::from(fault).number;
                 write!(f, "no {number}")
             }
             Answer::Decided(path, outcome) => match outcome {

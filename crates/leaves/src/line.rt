@@ -3,8 +3,8 @@ ghost use Rattle.std.specs.Prelude.{◌≡◌, ◌-◌, ◌++◌, replicate};
 ghost use Rattle.std.specs.Option.{option_map};
 ghost use Rattle.leaves.specs.Lines.{read_stamp, read_stamps, read_grade, read_place, read_places, read_vector, read_side, read_line, line_text};
 
-use paths::parts::{GradeParts, KnobsParts, StampParts};
-use paths::stamp::Panel;
+use paths::grade::{GradeParts, Knobs};
+use paths::stamp::{Panel, StampParts};
 use paths::vector::Vector;
 use text::{read_number, split_first};
 
@@ -60,7 +60,7 @@ fn read_stamps(text: &[u8]) -> Option<GradeParts>
 {
     let (stamp, birth) = split_first(text, b'/');
     Some(GradeParts {
-        knobs: KnobsParts {
+        knobs: Knobs {
             lift: 0,
             gamma: 0,
             gain: 0,

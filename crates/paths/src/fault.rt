@@ -70,7 +70,7 @@ impl Site {
         ensures { result ≡ nowhere }
     {
         Site {
-            path: Path { number: 0 },
+            path: Path::root(),
             panel: None,
         }
     }

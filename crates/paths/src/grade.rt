@@ -3,7 +3,7 @@ ghost use Rattle.std.specs.Prelude.{◌||◌, T, pos, negsuc, ◌≤ℤ◌, is_s
 
 use crate::stamp::{Stamp, StampParts};
 
-#[derive(Clone, Copy)]
+#[derive(Clone, Copy, PartialEq, Eq)]
 pub struct Knob {
     pub value: i16,
     ghost low: { negsuc 999 ≤ℤ value },
@@ -11,7 +11,7 @@ pub struct Knob {
 }
 
 // A value for each knob.
-#[derive(Clone, Copy)]
+#[derive(Clone, Copy, PartialEq, Eq)]
 pub struct Knobs<K> {
     pub lift: K,
     pub gamma: K,
@@ -20,7 +20,7 @@ pub struct Knobs<K> {
 }
 
 // In range, or of the plain numbers that a caller hands in.
-#[derive(Clone, Copy)]
+#[derive(Clone, Copy, PartialEq, Eq)]
 pub struct Grade<K = Knob, S = Stamp> {
     pub knobs: Knobs<K>,
     pub stamp: S,
@@ -30,7 +30,7 @@ pub struct Grade<K = Knob, S = Stamp> {
 pub type GradeParts = Grade<i64, StampParts>;
 
 // What a caller sets: one knob at least; the others are left out.
-#[derive(Clone, Copy)]
+#[derive(Clone, Copy, PartialEq, Eq)]
 pub struct Setting {
     pub knobs: Knobs<Option<Knob>>,
     ghost some: { T (is_some knobs.lift || is_some knobs.gamma || is_some knobs.gain || is_some knobs.contrast) },

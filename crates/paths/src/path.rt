@@ -20,7 +20,7 @@ impl Path {
     pub const LEVELS: usize = 4;
 
     pub fn root() -> Path
-        ensures { result.number ≡ 0 }
+        ensures { result ≡ record { number = 0; lawful = tt } }
     {
         Path { number: 0 }
     }

@@ -21,7 +21,7 @@ pub struct Bounds {
 pub fn greater_place(a: u32, b: u32) -> u32
     ensures { result ≡ max a b }
 {
-    if a < b { b } else { a }
+    a.max(b)
 }
 
 impl Vector {

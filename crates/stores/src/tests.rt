@@ -38,7 +38,7 @@ fn answer(table: &mut Table<'_>, op: Op) -> u32
             },
         ),
         Op::Drop(number) => {
-            let Some(path) = Path::of_number(number) else {
+            let Ok(path) = Path::try_from(number) else {
                 return 9;
             };
             if table.drop(path) { 1 } else { 0 }
@@ -49,7 +49,7 @@ fn answer(table: &mut Table<'_>, op: Op) -> u32
         }
         Op::Count => table.count() as u32,
         Op::Next(number) => {
-            let Some(path) = Path::of_number(number) else {
+            let Ok(path) = Path::try_from(number) else {
                 return 9;
             };
             match table.next(path) {
@@ -59,13 +59,13 @@ fn answer(table: &mut Table<'_>, op: Op) -> u32
         }
         Op::Found(number) => found(table, number),
         Op::Least(number) => {
-            let Some(path) = Path::of_number(number) else {
+            let Ok(path) = Path::try_from(number) else {
                 return 9;
             };
             table.bounds(path).least.place(Panel { number: 3 })
         }
         Op::Greatest(number) => {
-            let Some(path) = Path::of_number(number) else {
+            let Ok(path) = Path::try_from(number) else {
                 return 9;
             };
             table.bounds(path).greatest.place(Panel { number: 3 })
@@ -77,7 +77,7 @@ fn put(table: &mut Table<'_>, number: u32, vector: Vector) -> u32
     requires { TableSound table.old }
     ensures { TableSound table.new }
 {
-    let Some(path) = Path::of_number(number) else {
+    let Ok(path) = Path::try_from(number) else {
         return 9;
     };
     match table.put(
@@ -95,7 +95,7 @@ fn put(table: &mut Table<'_>, number: u32, vector: Vector) -> u32
 fn found(table: &Table<'_>, number: u32) -> u32
     requires { TableSound table.now }
 {
-    let Some(path) = Path::of_number(number) else {
+    let Ok(path) = Path::try_from(number) else {
         return 9;
     };
     match table.find(path) {
