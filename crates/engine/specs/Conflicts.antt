@@ -36,9 +36,7 @@ Opens a b p (Ok t) =
     (open_refusal a b p ≡ None)
     × (t
     ≡ record {
-      source = a.number;
-      destination = b.number;
-      leaf = p;
+      meeting = record { source = a.number; destination = b.number; path = p };
       theirs = stamp_at a p.number;
       ours = stamp_at b p.number;
     })
@@ -54,9 +52,9 @@ agree (Some s) (Some t) = same_stamp (stamp_parts s) (stamp_parts t)
 -- the conflict is of these panels, and there still is one of these stamps
 abbrev pub still_stands : Model → Model → Conflict → Bool
 still_stands a b t =
-    (a.number.number == t.source.number) && b.number.number == t.destination.number
-    && is_conflict (outcome_at a b t.leaf.number) && agree (stamp_at a t.leaf.number) t.theirs
-    && agree (stamp_at b t.leaf.number) t.ours
+    (a.number.number == t.meeting.source.number) && b.number.number == t.meeting.destination.number
+    && is_conflict (outcome_at a b t.meeting.path.number) && agree (stamp_at a t.meeting.path.number) t.theirs
+    && agree (stamp_at b t.meeting.path.number) t.ours
 
 abbrev pub bad_knobs : Choice → Bool
 bad_knobs Ours = false
@@ -93,18 +91,18 @@ due_after_choice a b p c =
 
 abbrev pub choose_refusal : Model → Model → Conflict → Choice → Option Fault
 choose_refusal a b t c =
-    first_of (refuse_if (bad_knobs c) (OutOfRange (site b t.leaf)))
-    (first_of (refuse_if (not (still_stands a b t)) (StaleConflict (site b t.leaf)))
+    first_of (refuse_if (bad_knobs c) (OutOfRange (site b t.meeting.path)))
+    (first_of (refuse_if (not (still_stands a b t)) (StaleConflict (site b t.meeting.path)))
     (first_of
-    (refuse_if (due_after_choice a b t.leaf.number c && is_full b t.leaf.number) (store_fault b t.leaf Full))
-    (refuse_if (at_last b) (store_fault b t.leaf LastTime))))
+    (refuse_if (due_after_choice a b t.meeting.path.number c && is_full b t.meeting.path.number) (store_fault b t.meeting.path Full))
+    (refuse_if (at_last b) (store_fault b t.meeting.path LastTime))))
 
 -- what is chosen of A arrives first, then B ticks
 abbrev pub Chooses : Model → Model → Conflict → Choice → Result ℕ Fault → Model → Type 0
 Chooses a b t c (Ok clock) after =
     (choose_refusal a b t c ≡ None) × (clock ≡ b.clock + 1)
-    × ((g : Option Grade) × (option_map grade_parts g ≡ chosen a b t.leaf.number c)
-    × (after ≡ tick_model (with_entries b (after_choice a b t.leaf g))))
+    × ((g : Option Grade) × (option_map grade_parts g ≡ chosen a b t.meeting.path.number c)
+    × (after ≡ tick_model (with_entries b (after_choice a b t.meeting.path g))))
 Chooses a b t c (Err f) after = (choose_refusal a b t c ≡ Some f) × (after ≡ b)
 
 -- leaving a conflict changes nothing

@@ -1,6 +1,7 @@
 pub mod ActLaws
 pub mod Acts
 pub mod Conflicts
+pub mod Counts
 pub mod Knowledge
 pub mod LeafLaws
 pub mod LeafRule

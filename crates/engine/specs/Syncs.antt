@@ -1,5 +1,5 @@
 -- Sync from a source A onto a destination B over one path: what becomes of each path, and what the call answers.
-use Rattle.std.specs.Prelude.{◌≡◌, ℕ, suc, Bool, cond, not, ◌&&◌, List, [], ◌∷◌, ◌++◌, length, drop, is_some, Some, None, Ok, Err, Option, Result, ◌==◌, nat_lt}
+use Rattle.std.specs.Prelude.{◌≡◌, ℕ, Bool, cond, not, ◌&&◌, List, [], ◌∷◌, ◌++◌, length, drop, is_some, Some, None, Ok, Err, Option, Result, ◌==◌, nat_lt}
 use Rattle.paths.specs.Steps.{levels, covers, parent}
 use Rattle.paths.specs.Vectors.{greater, at_most}
 use Rattle.paths.specs.declared.fault.Cause.TheVariants.{Full}
@@ -13,11 +13,12 @@ use Rattle.stores.specs.Slots.{lookup}
 use Rattle.stores.specs.declared.entry.Entry.{Entry}
 use Rattle.stores.specs.declared.entry.Slot.{Slot}
 use Rattle.engine.specs.Acts.{slot_of, store_fault}
+use Rattle.engine.specs.Counts.{no_counts, counted}
 use Rattle.engine.specs.Knowledge.{own, vector_at, grade_at, outcome_at, is_conflict, settled, site, refuse_if}
 use Rattle.engine.specs.declared.answers.Reported.{Reported}
-use Rattle.engine.specs.declared.answers.Tally.{Tally}
 use Rattle.engine.specs.declared.leaf.Outcome.{Outcome}
 use Rattle.engine.specs.declared.leaf.Outcome.TheVariants.{Kept, Taken, Removed, Conflict}
+use Rattle.engine.specs.declared.tally.Tally.{Tally}
 
 -- what is taken of A, onto B, by an outcome at a leaf
 abbrev pub grade_after : Option Outcome → Option Grade → Option Grade → Option Grade
@@ -97,19 +98,8 @@ abbrev pub conflicts_of : Model → Model → Path → List Reported
 conflicts_of a b p = reports (leaf_outcome a b p.number) (candidates a b p)
 
 -- how many leaves have each outcome
-abbrev pub counted : Option Outcome → Tally → Tally
-counted None t = t
-counted (Some Kept) t =
-    record { kept = suc t.kept; taken = t.taken; removed = t.removed; conflicts = t.conflicts }
-counted (Some Taken) t =
-    record { kept = t.kept; taken = suc t.taken; removed = t.removed; conflicts = t.conflicts }
-counted (Some Removed) t =
-    record { kept = t.kept; taken = t.taken; removed = suc t.removed; conflicts = t.conflicts }
-counted (Some (Conflict k)) t =
-    record { kept = t.kept; taken = t.taken; removed = t.removed; conflicts = suc t.conflicts }
-
 abbrev pub tally_of : (ℕ → Option Outcome) → List Path → Tally
-tally_of f [] = record { kept = 0; taken = 0; removed = 0; conflicts = 0 }
+tally_of f [] = no_counts
 tally_of f (p ∷ ps) = counted (f p.number) (tally_of f ps)
 
 -- work and report are the places of the two lists

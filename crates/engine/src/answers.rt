@@ -4,24 +4,23 @@ use paths::grade::SettingParts;
 use paths::path::Path;
 use paths::stamp::{Panel, Stamp};
 
-// How many grades a removal took, and the clock after it.
+// Two panels by their numbers, and the path at which one is the source and the other the destination of a call.
 #[derive(Clone, Copy)]
+pub struct Meeting {
+    pub source: Panel,
+    pub destination: Panel,
+    pub path: Path,
+}
+
+// How many grades a removal took, and the clock after it.
+#[derive(Clone, Copy, PartialEq, Eq)]
 pub struct Removal {
     pub removed: usize,
     pub clock: u32,
 }
 
-// How many leaves a sync left with each outcome.
-#[derive(Clone, Copy)]
-pub struct Tally {
-    pub kept: usize,
-    pub taken: usize,
-    pub removed: usize,
-    pub conflicts: usize,
-}
-
 // A leaf that a sync left in conflict.
-#[derive(Clone, Copy)]
+#[derive(Clone, Copy, PartialEq, Eq)]
 pub struct Reported {
     pub leaf: Path,
     pub kind: Kind,
@@ -35,11 +34,9 @@ pub enum Choice {
     Third(SettingParts),
 }
 
-// A conflict that was opened: the panels, the leaf, and the stamp of each side, if it has a grade.
+// A conflict that was opened: the panels with the leaf, and the stamp of each side, if it has a grade.
 pub struct Conflict {
-    pub source: Panel,
-    pub destination: Panel,
-    pub leaf: Path,
+    pub meeting: Meeting,
     pub theirs: Option<Stamp>,
     pub ours: Option<Stamp>,
 }

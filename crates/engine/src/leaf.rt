@@ -9,9 +9,16 @@ use paths::vector::Vector;
 
 // What one panel has at a leaf: its grade, if any, and the vector there.
 #[derive(Clone, Copy)]
-pub struct Side {
-    pub grade: Option<Grade>,
+pub struct Side<G> {
+    pub grade: Option<G>,
     pub vector: Vector,
+}
+
+// A grade and the vector that its panel has at the leaf.
+#[derive(Clone, Copy)]
+struct Holding {
+    grade: Grade,
+    vector: Vector,
 }
 
 // Why two sides cannot be joined. A is the source and B the destination.
@@ -38,12 +45,12 @@ pub enum Outcome {
     Conflict(Kind),
 }
 
-impl Kind {
-    // The number by which reports name it.
-    pub fn number(self) -> u8
-        ensures { result ≡ kind_number self }
-    {
-        match self {
+// The number by which reports name it.
+impl From<Kind> for u8 {
+    ghost from_gives = { λ kind number. number ≡ kind_number kind };
+
+    fn from(kind: Kind) -> u8 {
+        match kind {
             Kind::Concurrent => 1,
             Kind::Tangled => 2,
             Kind::RemovedAtDestination => 3,
@@ -53,37 +60,49 @@ impl Kind {
 }
 
 // What a sync from a onto b does at a leaf; none where both sides are empty.
-pub fn decide(a: Side, b: Side) -> Option<Outcome>
+pub fn decide(a: Side<Grade>, b: Side<Grade>) -> Option<Outcome>
     ensures { result ≡ outcome (option_map version a.grade) a.vector.places (option_map version b.grade) b.vector.places }
 {
-    match a.grade {
-        Some(theirs) => match b.grade {
-            Some(ours) => Some(both(theirs, a.vector, ours, b.vector)),
-            None => Some(only_source(theirs, b.vector)),
-        },
-        None => match b.grade {
-            Some(ours) => Some(only_destination(a.vector, ours)),
-            None => None,
-        },
+    match (a.holding(), b.holding()) {
+        (Some(theirs), Some(ours)) => Some(both(theirs, ours)),
+        (Some(theirs), None) => Some(only_source(theirs.grade, b.vector)),
+        (None, Some(ours)) => Some(only_destination(a.vector, ours.grade)),
+        (None, None) => None,
     }
 }
 
-// Whether a side of grade x at vector v goes on from one of grade y at w: it knows y's stamp and is not known there,
-// and both come from one birth or x's birth is new to y's panel.
-fn goes_on(x: Grade, v: Vector, y: Grade, w: Vector) -> bool
-    ensures { result ≡ goes_on (version x) v.places (version y) w.places }
-{
-    v.knows(y.stamp) && !w.knows(x.stamp) && (x.birth == y.birth || !w.knows(x.birth))
+impl Side<Grade> {
+    fn holding(self) -> Option<Holding>
+        ensures { result ≡ option_map (λ g. record { grade = g; vector = self.vector }) self.grade }
+    {
+        let grade = self.grade?;
+        Some(Holding {
+            grade,
+            vector: self.vector,
+        })
+    }
 }
 
-fn both(theirs: Grade, source: Vector, ours: Grade, destination: Vector) -> Outcome
-    ensures { result ≡ both_sides (version theirs) source.places (version ours) destination.places }
+impl Holding {
+    // Whether this side goes on from the other: it knows the other's stamp and is not known there, and both come from one
+    // birth or its birth is new to the other's panel.
+    fn goes_on(self, other: Holding) -> bool
+        ensures { result ≡ goes_on (version self.grade) self.vector.places (version other.grade) other.vector.places }
+    {
+        self.vector.knows(other.grade.stamp)
+            && !other.vector.knows(self.grade.stamp)
+            && (self.grade.birth == other.grade.birth || !other.vector.knows(self.grade.birth))
+    }
+}
+
+fn both(theirs: Holding, ours: Holding) -> Outcome
+    ensures { result ≡ both_sides (version theirs.grade) theirs.vector.places (version ours.grade) ours.vector.places }
 {
-    if theirs.stamp == ours.stamp || goes_on(ours, destination, theirs, source) {
+    if theirs.grade.stamp == ours.grade.stamp || ours.goes_on(theirs) {
         Outcome::Kept
-    } else if goes_on(theirs, source, ours, destination) {
+    } else if theirs.goes_on(ours) {
         Outcome::Taken
-    } else if !destination.knows(theirs.stamp) && !source.knows(ours.stamp) {
+    } else if !ours.vector.knows(theirs.grade.stamp) && !theirs.vector.knows(ours.grade.stamp) {
         Outcome::Conflict(Kind::Concurrent)
     } else {
         Outcome::Conflict(Kind::Tangled)

@@ -4,20 +4,23 @@
 pub mod answers;
 pub mod laws;
 pub mod leaf;
+pub mod lent;
+pub mod tally;
 
 #[cfg(test)]
 mod tests {
     use crate::leaf::{Kind, Outcome, Side, decide};
+    use paths::grade::Grade;
     use paths::vector::Vector;
 
     #[test]
     fn two_empty_sides_have_no_outcome(rt: HostRuntime) {
-        let side = Side {
+        let side: Side<Grade> = Side {
             grade: None,
             vector: Vector { places: [0; 8] },
         };
         assert!(rt; decide(side, side).is_none());
         assert!(rt; Outcome::Conflict(Kind::RemovedAtSource) != Outcome::Kept);
-        assert!(rt; Kind::RemovedAtSource.number() == 4);
+        assert!(rt; u8::from(Kind::RemovedAtSource) == 4);
     }
 }

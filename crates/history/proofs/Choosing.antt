@@ -91,38 +91,38 @@ module _
     (w : Chooses a b t c (Ok clock) n) where
   accepts :
       (bad_knobs c ≡ false) × (not (still_stands a b t) ≡ false)
-      × ((due_after_choice a b t.leaf.number c && is_full b t.leaf.number) ≡ false) × (at_last b ≡ false)
+      × ((due_after_choice a b t.meeting.path.number c && is_full b t.meeting.path.number) ≡ false) × (at_last b ≡ false)
   accepts =
       none_of_four (bad_knobs c) (not (still_stands a b t))
-      (due_after_choice a b t.leaf.number c && is_full b t.leaf.number) (at_last b) _ _ _ _ w.0
+      (due_after_choice a b t.meeting.path.number c && is_full b t.meeting.path.number) (at_last b) _ _ _ _ w.0
 
   -- the tests by which the conflict still stands
   abbrev panels : Bool
-  panels = eqb a.number.number t.source.number && eqb b.number.number t.destination.number
+  panels = eqb a.number.number t.meeting.source.number && eqb b.number.number t.meeting.destination.number
 
   abbrev in_conflict : Bool
-  in_conflict = is_conflict (outcome_at a b t.leaf.number)
+  in_conflict = is_conflict (outcome_at a b t.meeting.path.number)
 
   stands : (panels ≡ true) × (in_conflict ≡ true)
   stands =
-      let theirs = agree (stamp_at a t.leaf.number) t.theirs in
-      let ours = agree (stamp_at b t.leaf.number) t.ours in
+      let theirs = agree (stamp_at a t.meeting.path.number) t.theirs in
+      let ours = agree (stamp_at b t.meeting.path.number) t.ours in
       let (front, _) = and_parts (panels && in_conflict && theirs) ours (not-false (still_stands a b t) accepts.1) in
       let (front, _) = and_parts (panels && in_conflict) theirs front in and_parts panels in_conflict front
 
-  choice-leaf : is_leaf t.leaf.number ≡ true
-  choice-leaf = conflict_at-leaf a b t.leaf.number law-a law-b stands.1
+  choice-leaf : is_leaf t.meeting.path.number ≡ true
+  choice-leaf = conflict_at-leaf a b t.meeting.path.number law-a law-b stands.1
 
   abbrev p : ℕ
-  p = t.leaf.number
+  p = t.meeting.path.number
 
   abbrev grade_chosen : Option GradeParts
   grade_chosen = chosen_grade (picked c (held a p) (held b p)) (next_stamp b)
 
   -- the leaf is due after it as the refusal foresees
-  room : (g : Option Grade) → option_map grade_parts g ≡ chosen a b p c → length (after_choice a b t.leaf g) ≤ b.capacity
+  room : (g : Option Grade) → option_map grade_parts g ≡ chosen a b p c → length (after_choice a b t.meeting.path g) ≤ b.capacity
   room g parts =
-      fits_after b t.leaf (settled b p both up g) law-b
+      fits_after b t.meeting.path (settled b p both up g) law-b
       (ap (λ x. x && is_full b p) (settled-some g ∙ due_is) ∙ accepts.2)
     where
       both : List ℕ
@@ -155,7 +155,7 @@ module _
   choice_ticked =
       let (g, parts, is) = w.2 in
       subst (Ticked b) (sym is)
-      (tick_ticked b _ refl refl accepts.3 ((acts_keep_lawful b law-b).choice a t.leaf g choice-leaf (room g parts)))
+      (tick_ticked b _ refl refl accepts.3 ((acts_keep_lawful b law-b).choice a t.meeting.path g choice-leaf (room g parts)))
 
   pub choice_acted :
       (q : ℕ) → Leaf q
@@ -164,7 +164,7 @@ module _
       (cond (eqb p q) grade_chosen (held b q))
   choice_acted q leaf =
       let (g, parts, is) = w.2 in
-      let settles = choice_settles a b t.leaf g q law-b choice-leaf leaf.0 in
+      let settles = choice_settles a b t.meeting.path g q law-b choice-leaf leaf.0 in
       let grade : option_map grade_parts g ≡ grade_chosen =
       parts ∙ ap (λ k. chosen_grade k (next_stamp b)) (picked_is a b p c) in
       subst

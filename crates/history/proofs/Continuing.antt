@@ -1,5 +1,6 @@
 -- A request makes a run longer, and so the law holds after it.
-use Rattle.std.proofs.Common.{◌≡◌, ℕ, zero, suc, ◌<◌, Bool, true, cond, eqb, ltb, List, [], ◌∷◌, ◌++◌, length, get_or, drop, is_ok, Ok, Err, Result, sym, refl, ap, ◌∙◌, subst, inl, inr, append_assoc, append-nil, arith, length-append, length-drop}
+use Rattle.std.proofs.Common.{◌≡◌, ℕ, zero, suc, ◌+◌, ◌<◌, Bool, true, cond, eqb, ltb, List, [], ◌∷◌, ◌++◌, length, get_or, take, drop, is_ok, Ok, Err, Result, sym, refl, ap, ap₂, ◌∙◌, subst, inl, inr, append_assoc, append-nil, arith, length-append, length-drop}
+use Rattle.std.proofs.lemmas.List.{take_more}
 use Rattle.std.proofs.lemmas.Bool.{and_parts, cases_eq, ltb-false}
 use Rattle.paths.specs.declared.fault.Fault.{Fault}
 use Rattle.engine.specs.Syncs.{entries_after, conflicts_of}
@@ -63,22 +64,22 @@ module _ (has : ℕ → Bool) where
       one_more (Asks work report (Write k p s)) (write k.number p s) (is_ok x) [] before after refl named (x, refl, w, only)
   continues work report (Remove k p) before after r named ((x, _, w), only) =
       one_more (Asks work report (Remove k p)) (remove k.number p) (is_ok x) [] before after refl named (x, refl, w, only)
-  continues work report (Sync a b p) before after r named ((x, _, w), only) =
-      one_more (Asks work report (Sync a b p)) (sync a.number b.number p work report) (is_ok x)
-      (cond (is_ok x) (leaves_of (conflicts_of (before a.number) (before b.number) p)) []) before after refl named
+  continues work report (Sync m) before after r named ((x, _, w), only) =
+      one_more (Asks work report (Sync m)) (sync m.source.number m.destination.number m.path work report) (is_ok x)
+      (cond (is_ok x) (leaves_of (conflicts_of (before m.source.number) (before m.destination.number) m.path)) []) before after refl named
       (x, refl, w, only, refl)
-  continues work report (Inspect a b p) before after r named ((Ok t, _, w), each) =
-      two-more (Asks work report (Inspect a b p)) (open_conflict a.number b.number p) (leave t) true true before after
+  continues work report (Inspect m) before after r named ((Ok t, _, w), each) =
+      two-more (Asks work report (Inspect m)) (open_conflict m.source.number m.destination.number m.path) (leave t) true true before after
       (inr (t, refl)) named refl (Ok t, refl, w, λ j. refl) each
-  continues work report (Inspect a b p) before after r named ((Err f, _, w), each) =
-      one_more (Asks work report (Inspect a b p)) (open_conflict a.number b.number p) (is_ok {T = Unit {0}} (Err f)) [] before after
+  continues work report (Inspect m) before after r named ((Err f, _, w), each) =
+      one_more (Asks work report (Inspect m)) (open_conflict m.source.number m.destination.number m.path) (is_ok {T = Unit {0}} (Err f)) [] before after
       (inl refl) named (Err f, refl, w, each)
-  continues work report (Resolve a b p c) before after r named ((x, _, inl (f, w, _, same)), only) =
-      one_more (Asks work report (Resolve a b p c)) (open_conflict a.number b.number p) (is_ok {T = Unit {0}} (Err f)) [] before after
-      (inl refl) named (Err f, refl, w, unchanged b.number before after same only)
-  continues work report (Resolve a b p c) before after r named ((x, _, inr (t, w, chosen)), only) =
-      two-more (Asks work report (Resolve a b p c)) (open_conflict a.number b.number p)
-      (choose a.number b.number t c) true (is_ok x) before after (inr (t, refl)) named named
+  continues work report (Resolve m c) before after r named ((x, _, inl (f, w, _, same)), only) =
+      one_more (Asks work report (Resolve m c)) (open_conflict m.source.number m.destination.number m.path) (is_ok {T = Unit {0}} (Err f)) [] before after
+      (inl refl) named (Err f, refl, w, unchanged m.destination.number before after same only)
+  continues work report (Resolve m c) before after r named ((x, _, inr (t, w, chosen)), only) =
+      two-more (Asks work report (Resolve m c)) (open_conflict m.source.number m.destination.number m.path)
+      (choose m.source.number m.destination.number t c) true (is_ok x) before after (inr (t, refl)) named named
       (Ok t, refl, w, λ j. refl) (x, refl, chosen, only)
 
   -- no request leaves the run as it is
@@ -86,7 +87,7 @@ module _ (has : ℕ → Bool) where
   none_asked work report s es run = ([], refl, run, stores_follow_history has es s run)
 
   -- one request behind others
-  pub asked_more :
+  asked_more :
       (work report : ℕ) (qs : List Request) (q : Request) (before between after : Stores)
       → Continues has (AsksAll work report qs) before between → Continues has (Asks work report q) between after
       → Continues has (AsksAll work report (qs ++ (q ∷ []))) before after
@@ -106,15 +107,30 @@ module _ (has : ℕ → Bool) where
       calls-both [] fs = refl
       calls-both (k ∷ ks) fs = ap (λ cs. k.call ∷ cs) (calls-both ks fs)
 
+  -- the next of the requests, where the lists still have the places that they had
+  pub asked_next :
+      (work report work' report' : ℕ) (qs : List Request) (i : ℕ) (q : Request) (start before after : Stores)
+      → work' ≡ work → report' ≡ report → i < length qs → q ≡ get_or qs i q
+      → Continues has (AsksAll work report (take i qs)) start before
+      → Continues has (Asks work' report' q) before after
+      → Continues has (AsksAll work report (take (i + 1) qs)) start after
+  asked_next work report work' report' qs i q start before after w n lt is first then =
+      let here : Continues has (Asks work report q) before after =
+      subst (λ (t : ℕ × ℕ). Continues has (Asks t.0 t.1 q) before after) (ap₂ (λ a b. (a, b)) w n) then in
+      let more : take i qs ++ (q ∷ []) ≡ take (i + 1) qs =
+      ap (λ r. take i qs ++ (r ∷ [])) is ∙ sym (take_more qs i q lt) in
+      subst (λ rs. Continues has (AsksAll work report rs) start after) more
+      (asked_more work report (take i qs) q start before after first here)
+
 -- each of the requests names panels that take part
 pub named_at :
-    (has : ℕ → Bool) (qs : List Request) (i : ℕ) (q : Request) → all_name has qs ≡ true → i < length qs
-    → q ≡ get_or qs i q → names has q ≡ true
-named_at has [] i q all lt is = absurd (omega arith)
-named_at has (p ∷ qs) zero q all lt is =
+    (has : ℕ → Bool) (qs : List Request) → all_name has qs ≡ true → (i : ℕ) (q : Request) → q ≡ get_or qs i q
+    → i < length qs → names has q ≡ true
+named_at has [] all i q is lt = absurd (omega arith)
+named_at has (p ∷ qs) all zero q is lt =
     subst (λ t. names has t ≡ true) (sym is) (and_parts (names has p) (all_name has qs) all).0
-named_at has (p ∷ qs) (suc i) q all lt is =
-    named_at has qs i q (and_parts (names has p) (all_name has qs) all).1 (omega arith) is
+named_at has (p ∷ qs) all (suc i) q is lt =
+    named_at has qs (and_parts (names has p) (all_name has qs) all).1 i q is (omega arith)
 
 -- a report list keeps its places
 pub report-room :
@@ -122,16 +138,16 @@ pub report-room :
     → Performs work (length places) q before r after → length (report_left q before (is_ok r) places) ≡ length places
 report-room work (Write k p s) before after r places done = refl
 report-room work (Remove k p) before after r places done = refl
-report-room work (Sync a b p) before after r places ((Err f, is, w), only) =
-    ap (λ x. length (report_left (Sync a b p) before (is_ok x) places)) is
-report-room work (Sync a b p) before after r places ((Ok tally, is, w), only) =
-    let conflicts = conflicts_of (before a.number) (before b.number) p in
+report-room work (Sync m) before after r places ((Err f, is, w), only) =
+    ap (λ x. length (report_left (Sync m) before (is_ok x) places)) is
+report-room work (Sync m) before after r places ((Ok tally, is, w), only) =
+    let conflicts = conflicts_of (before m.source.number) (before m.destination.number) m.path in
     let (_, _, fits, _) =
-    none_of_four (eqb (before a.number).number.number (before b.number).number.number)
-    (ltb work (before b.number).capacity) (ltb (length places) (length conflicts))
-    (ltb (before b.number).capacity (length (entries_after (before a.number) (before b.number) p))) _ _ _ _ w.0 in
-    ap (λ x. length (report_left (Sync a b p) before (is_ok x) places)) is
+    none_of_four (eqb (before m.source.number).number.number (before m.destination.number).number.number)
+    (ltb work (before m.destination.number).capacity) (ltb (length places) (length conflicts))
+    (ltb (before m.destination.number).capacity (length (entries_after (before m.source.number) (before m.destination.number) m.path))) _ _ _ _ w.0 in
+    ap (λ x. length (report_left (Sync m) before (is_ok x) places)) is
     ∙ length-append conflicts (drop (length conflicts) places)
     ∙ omega (arith, length-drop (length conflicts) places, ltb-false (length places) (length conflicts) fits)
-report-room work (Inspect a b p) before after r places done = refl
-report-room work (Resolve a b p c) before after r places done = refl
+report-room work (Inspect m) before after r places done = refl
+report-room work (Resolve m c) before after r places done = refl

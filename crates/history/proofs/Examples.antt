@@ -119,7 +119,11 @@ two_heard = synced one_chose two_removed
 
 abbrev token : Conflict
 token =
-    record { source = two; destination = one; leaf = leaf; theirs = None; ours = Some (stamp one 2 tt tt) }
+    record {
+      meeting = record { source = two; destination = one; path = leaf };
+      theirs = None;
+      ours = Some (stamp one 2 tt tt);
+    }
 
 abbrev chosen_run : List Event
 chosen_run = done (choose 2 1 token Theirs) [] ∷ (s 2 1 (leaf.number ∷ []) ∷ disputed_run)

@@ -16,7 +16,7 @@ use Rattle.stores.specs.Slots.{lookup, rises}
 use Rattle.stores.specs.declared.entry.Slot.{Slot}
 use Rattle.engine.specs.Knowledge.{vector_at, grade_of}
 use Rattle.engine.specs.Syncs.{conflicts_of, Syncs}
-use Rattle.engine.specs.declared.answers.Tally.{Tally}
+use Rattle.engine.specs.declared.tally.Tally.{Tally}
 use Rattle.history.specs.History.{
   Act,
   Call,

@@ -331,12 +331,12 @@ module _ (has : ℕ → Bool) (h : History) (s after : Stores) (sound : Sound ha
     -- what the store knows before the tick and holds after it
     abbrev vector_there : ℕ → List ℕ
     vector_there q =
-        cond (eqb t.leaf.number q) (own (s b) (greater (vector_at (s a) q) (vector_at (s b) q))) (vector_at (s b) q)
+        cond (eqb t.meeting.path.number q) (own (s b) (greater (vector_at (s a) q) (vector_at (s b) q))) (vector_at (s b) q)
 
     abbrev grade_there : ℕ → Option GradeParts
     grade_there q =
-        cond (eqb t.leaf.number q)
-        (chosen_grade (picked c (held (s a) t.leaf.number) (held (s b) t.leaf.number)) (next_stamp (s b)))
+        cond (eqb t.meeting.path.number q)
+        (chosen_grade (picked c (held (s a) t.meeting.path.number) (held (s b) t.meeting.path.number)) (next_stamp (s b)))
         (held (s b) q)
 
     -- first what the source has arrives
@@ -362,16 +362,16 @@ module _ (has : ℕ → Bool) (h : History) (s after : Stores) (sound : Sound ha
         omega (arith, here-places q b, own-clock q, (sound.leaves q leaf).known.bounded a b ha hb)
 
     knew :
-        (q : ℕ) → eqb t.leaf.number q ≡ true → (k : ℕ) → has k ≡ true → (k ≡ b → ⊥)
+        (q : ℕ) → eqb t.meeting.path.number q ≡ true → (k : ℕ) → has k ≡ true → (k ≡ b → ⊥)
         → place (vector_there q) k ≡ places q b k
     knew q e k hk other =
-        ap (λ v. place v k) (cond-true (eqb t.leaf.number q) _ _ e)
+        ap (λ v. place v k) (cond-true (eqb t.meeting.path.number q) _ _ e)
         ∙ own-greater (s b) (vector_at (s a) q) (vector_at (s b) q) k (positive k hk)
         ∙ cond-false (eqb k (s b).number.number) _ _ (ne_eqb k _ (λ f. other (f ∙ sound.numbers b hb)))
         ∙ sym (here-places q k)
 
     at_leaf :
-        (q : ℕ) (leaf : Leaf q) (x : Bool) → eqb t.leaf.number q ≡ x
+        (q : ℕ) (leaf : Leaf q) (x : Bool) → eqb t.meeting.path.number q ≡ x
         → Acted (s b) (after b) q (place (vector_there q)) (grade_there q)
         → After q leaf
         (cond x (with_act (arrived (h.notes b q) (h.notes a q)) (next_act h b) (chosen_here q)) (h.notes b q))
@@ -379,25 +379,25 @@ module _ (has : ℕ → Bool) (h : History) (s after : Stores) (sound : Sound ha
         let xs : List Act = arrived (h.notes b q) (h.notes a q) in
         let N₁ : ℕ → List Act = noted q leaf xs in
         let known = joined q leaf in
-        let theirs : held (s a) t.leaf.number ≡ side (h.notes a q) =
-        ap (held (s a)) (eqb-true t.leaf.number q e) ∙ holds-side a q ha leaf in
-        let ours : held (s b) t.leaf.number ≡ side (h.notes b q) =
-        ap (held (s b)) (eqb-true t.leaf.number q e) ∙ holds-side b q hb leaf in
+        let theirs : held (s a) t.meeting.path.number ≡ side (h.notes a q) =
+        ap (held (s a)) (eqb-true t.meeting.path.number q e) ∙ holds-side a q ha leaf in
+        let ours : held (s b) t.meeting.path.number ≡ side (h.notes b q) =
+        ap (held (s b)) (eqb-true t.meeting.path.number q e) ∙ holds-side b q hb leaf in
         subst (λ zs. After q leaf (with_act zs (next_act h b) (chosen_here q))) (noted_here q leaf xs)
         (touched-here q leaf N₁ (places q) known (noted_other q leaf xs) (other_than q) (own-joined q leaf) (place (vector_there q)) (knew q e)
         (grade_there q) acted
         (chosen_here q)
         ((λ i. chosen_grade (picked c (sym theirs i) (sym ours i)) (next_is i))
-        ∙ sym (cond-true (eqb t.leaf.number q) _ _ e))
+        ∙ sym (cond-true (eqb t.meeting.path.number q) _ _ e))
         (choice-held (N₁ b) (next_act h b) (known.formed b hb) (stamp_new q leaf N₁ (places q) known (own-joined q leaf))
         (picked c (side (h.notes a q)) (side (h.notes b q)))))
     at_leaf q leaf false e acted =
         elsewhere q leaf (grade_there q)
-        (subst (λ v. Acted (s b) (after b) q (place v) (grade_there q)) (cond-false (eqb t.leaf.number q) _ _ e) acted)
-        (ap (λ x. cond x (chosen_grade (picked c (held (s a) t.leaf.number) (held (s b) t.leaf.number)) (next_stamp (s b))) (held (s b) q)) e)
+        (subst (λ v. Acted (s b) (after b) q (place v) (grade_there q)) (cond-false (eqb t.meeting.path.number q) _ _ e) acted)
+        (ap (λ x. cond x (chosen_grade (picked c (held (s a) t.meeting.path.number) (held (s b) t.meeting.path.number)) (next_stamp (s b))) (held (s b) q)) e)
 
-    pub choice_sound : Sound has (note_choice h a b t.leaf c) after
+    pub choice_sound : Sound has (note_choice h a b t.meeting.path c) after
     choice_sound =
         act_sound _ (choice_ticked (s a) (s b) t c clock (after b) (sound.lawful a ha) (sound.lawful b hb) w)
-        (λ q leaf. at_leaf q leaf (eqb t.leaf.number q) refl
+        (λ q leaf. at_leaf q leaf (eqb t.meeting.path.number q) refl
         (choice_acted (s a) (s b) t c clock (after b) (sound.lawful a ha) (sound.lawful b hb) w q leaf))

@@ -13,7 +13,7 @@ use Rattle.engine.proofs.Keeping.{sync_keeps_lawful}
 use Rattle.engine.specs.Knowledge.{own, vector_at, grade_at, outcome_at, is_conflict}
 use Rattle.engine.specs.LeafRule.{version, outcome}
 use Rattle.engine.specs.Syncs.{grade_after, entries_after, conflicts_of, Syncs}
-use Rattle.engine.specs.declared.answers.Tally.{Tally}
+use Rattle.engine.specs.declared.tally.Tally.{Tally}
 use Rattle.engine.specs.declared.leaf.Outcome.{Outcome}
 use Rattle.engine.specs.declared.leaf.Outcome.TheVariants.{Kept, Taken, Removed, Conflict}
 use Rattle.history.specs.History.{Act, History, arrived, differ, is_among, note_sync}

@@ -179,7 +179,7 @@ note_call (write k p s) reported h = note_write h k p s
 note_call (remove k p) reported h = note_removal h k p
 note_call (sync a b p work report) reported h = note_sync h a b p reported
 note_call (open_conflict a b p) reported h = h
-note_call (choose a b t c) reported h = note_choice h a b t.leaf c
+note_call (choose a b t c) reported h = note_choice h a b t.meeting.path c
 note_call (leave t) reported h = h
 
 -- a refused call notes nothing

@@ -10,7 +10,7 @@ use Rattle.engine.specs.declared.answers.Choice.{Choice}
 use Rattle.engine.specs.declared.answers.Conflict.{Conflict}
 use Rattle.engine.specs.declared.answers.Removal.{Removal}
 use Rattle.engine.specs.declared.answers.Reported.{Reported}
-use Rattle.engine.specs.declared.answers.Tally.{Tally}
+use Rattle.engine.specs.declared.tally.Tally.{Tally}
 use Rattle.history.specs.History.{Call, write, remove, sync, open_conflict, choose, leave, Event, history}
 use Rattle.history.specs.Law.{Promises}
 use Rattle.history.specs.Runs.{Stores, OnlyAt, Run}
@@ -34,9 +34,9 @@ answered f (Err e) = Err e
 abbrev pub names : (ℕ → Bool) → Request → Bool
 names has (Write k p s) = has k.number
 names has (Remove k p) = has k.number
-names has (Sync a b p) = has a.number && has b.number
-names has (Inspect a b p) = has a.number && has b.number
-names has (Resolve a b p c) = has a.number && has b.number
+names has (Sync m) = has m.source.number && has m.destination.number
+names has (Inspect m) = has m.source.number && has m.destination.number
+names has (Resolve m c) = has m.source.number && has m.destination.number
 
 abbrev pub all_name : (ℕ → Bool) → List Request → Bool
 all_name has [] = true
@@ -50,38 +50,38 @@ Performs work report (Write k p s) before r after =
 Performs work report (Remove k p) before r after =
     ((x : Result Removal Fault) × (r ≡ answered Removed x) × Removes (before k.number) p x (after k.number))
     × OnlyAt k.number before after
-Performs work report (Sync a b p) before r after =
+Performs work report (Sync m) before r after =
     ((x : Result Tally Fault) × (r ≡ answered Synced x)
-    × Syncs (before a.number) (before b.number) p work report x (after b.number))
-    × OnlyAt b.number before after
-Performs work report (Inspect a b p) before r after =
-    ((x : Result Conflict Fault) × (r ≡ answered Found x) × Opens (before a.number) (before b.number) p x)
+    × Syncs (before m.source.number) (before m.destination.number) m.path work report x (after m.destination.number))
+    × OnlyAt m.destination.number before after
+Performs work report (Inspect m) before r after =
+    ((x : Result Conflict Fault) × (r ≡ answered Found x) × Opens (before m.source.number) (before m.destination.number) m.path x)
     × ((j : ℕ) → after j ≡ before j)
-Performs work report (Resolve a b p c) before r after =
+Performs work report (Resolve m c) before r after =
     ((x : Result ℕ Fault) × (r ≡ answered Clock x)
-    × Resolves (before a.number) (before b.number) p c x (after b.number))
-    × OnlyAt b.number before after
+    × Resolves (before m.source.number) (before m.destination.number) m.path c x (after m.destination.number))
+    × OnlyAt m.destination.number before after
 
 -- what the places of the report list hold after a request that was accepted or not: only a sync fills it, from the front
 abbrev pub report_left : Request → Stores → Bool → List Reported → List Reported
 report_left (Write k p s) before ok places = places
 report_left (Remove k p) before ok places = places
-report_left (Sync a b p) before ok places =
+report_left (Sync m) before ok places =
     cond ok
-    (conflicts_of (before a.number) (before b.number) p
-    ++ drop (length (conflicts_of (before a.number) (before b.number) p)) places)
+    (conflicts_of (before m.source.number) (before m.destination.number) m.path
+    ++ drop (length (conflicts_of (before m.source.number) (before m.destination.number) m.path)) places)
     places
-report_left (Inspect a b p) before ok places = places
-report_left (Resolve a b p c) before ok places = places
+report_left (Inspect m) before ok places = places
+report_left (Resolve m c) before ok places = places
 
 -- how many of them are filled
 abbrev pub report_count : Request → Stores → Bool → ℕ → ℕ
 report_count (Write k p s) before ok filled = filled
 report_count (Remove k p) before ok filled = filled
-report_count (Sync a b p) before ok filled =
-    cond ok (length (conflicts_of (before a.number) (before b.number) p)) filled
-report_count (Inspect a b p) before ok filled = filled
-report_count (Resolve a b p c) before ok filled = filled
+report_count (Sync m) before ok filled =
+    cond ok (length (conflicts_of (before m.source.number) (before m.destination.number) m.path)) filled
+report_count (Inspect m) before ok filled = filled
+report_count (Resolve m c) before ok filled = filled
 
 -- the calls of a list of events, the latest first
 abbrev pub calls : List Event → List Call
@@ -92,13 +92,13 @@ calls (e ∷ es) = e.call ∷ calls es
 abbrev pub Asks : (work report : ℕ) → Request → List Call → Type 0
 Asks work report (Write k p s) cs = cs ≡ write k.number p s ∷ []
 Asks work report (Remove k p) cs = cs ≡ remove k.number p ∷ []
-Asks work report (Sync a b p) cs = cs ≡ sync a.number b.number p work report ∷ []
-Asks work report (Inspect a b p) cs =
-    (cs ≡ open_conflict a.number b.number p ∷ [])
-    ⊎ ((t : Conflict) × (cs ≡ leave t ∷ (open_conflict a.number b.number p ∷ [])))
-Asks work report (Resolve a b p c) cs =
-    (cs ≡ open_conflict a.number b.number p ∷ [])
-    ⊎ ((t : Conflict) × (cs ≡ choose a.number b.number t c ∷ (open_conflict a.number b.number p ∷ [])))
+Asks work report (Sync m) cs = cs ≡ sync m.source.number m.destination.number m.path work report ∷ []
+Asks work report (Inspect m) cs =
+    (cs ≡ open_conflict m.source.number m.destination.number m.path ∷ [])
+    ⊎ ((t : Conflict) × (cs ≡ leave t ∷ (open_conflict m.source.number m.destination.number m.path ∷ [])))
+Asks work report (Resolve m c) cs =
+    (cs ≡ open_conflict m.source.number m.destination.number m.path ∷ [])
+    ⊎ ((t : Conflict) × (cs ≡ choose m.source.number m.destination.number t c ∷ (open_conflict m.source.number m.destination.number m.path ∷ [])))
 
 -- the calls that a list of requests comes to
 abbrev pub AsksAll : (work report : ℕ) → List Request → List Call → Type 0

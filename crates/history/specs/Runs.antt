@@ -9,7 +9,7 @@ use Rattle.engine.specs.Syncs.{Syncs, conflicts_of}
 use Rattle.engine.specs.declared.answers.Conflict.{Conflict}
 use Rattle.engine.specs.declared.answers.Removal.{Removal}
 use Rattle.engine.specs.declared.answers.Reported.{Reported}
-use Rattle.engine.specs.declared.answers.Tally.{Tally}
+use Rattle.engine.specs.declared.tally.Tally.{Tally}
 use Rattle.history.specs.History.{Call, write, remove, sync, open_conflict, choose, leave, Event}
 
 -- the store of each panel, by its number

@@ -5,107 +5,57 @@ ghost use Rattle.history.specs.Requests.{names, all_name, Performs, report_left,
 
 use crate::panels::Panels;
 use crate::request::{Answer, Request};
-use engine::answers::{Conflict, Reported};
-use lists::FrontList;
+use engine::answers::Conflict;
+use engine::lent::Lists;
 use paths::fault::Fault;
-use stores::entry::Slot;
 
 // One request. A sync refills the report from its front.
 pub fn perform<P: Panels>(
     panels: &mut P,
     request: Request,
-    work: &mut FrontList<'_, Slot>,
-    report: &mut FrontList<'_, Reported>,
+    lists: &mut Lists<'_, '_>,
 ) -> Result<Answer, Fault>
-    requires sound { P.Panels.sound panels.old }
-    requires has { names P.Panels.has request ≡ true }
-    ensures done { Performs (length work.old.slots.now) (length report.old.slots.now) request (P.Panels.stores panels.old) result (P.Panels.stores panels.new) }
-    ensures law { Continues P.Panels.has (Asks (length work.old.slots.now) (length report.old.slots.now) request) (P.Panels.stores panels.old) (P.Panels.stores panels.new) }
-    ensures reported { report.new.slots.now ≡ report_left request (P.Panels.stores panels.old) (is_ok result) report.old.slots.now }
-    ensures filled { report.new.len ≡ report_count request (P.Panels.stores panels.old) (is_ok result) report.old.len }
-    ensures work { length work.new.slots.now ≡ length work.old.slots.now }
-    ensures sound { P.Panels.sound panels.new }
-{
-    ask(panels, request, work, report)
-}
-
-// The call that a request is.
-fn ask<P: Panels>(
-    panels: &mut P,
-    request: Request,
-    work: &mut FrontList<'_, Slot>,
-    report: &mut FrontList<'_, Reported>,
-) -> Result<Answer, Fault>
-    requires sound { P.Panels.sound panels.old }
-    requires has { names P.Panels.has request ≡ true }
-    ensures done { Performs (length work.old.slots.now) (length report.old.slots.now) request (P.Panels.stores panels.old) result (P.Panels.stores panels.new) }
-    ensures reported { report.new.slots.now ≡ report_left request (P.Panels.stores panels.old) (is_ok result) report.old.slots.now }
-    ensures filled { report.new.len ≡ report_count request (P.Panels.stores panels.old) (is_ok result) report.old.len }
-    ensures work { length work.new.slots.now ≡ length work.old.slots.now }
-    ensures sound { P.Panels.sound panels.new }
+    requires { names P.Panels.has request ≡ true }
+    ensures done { Performs (length lists.old.work.slots.now) (length lists.old.report.slots.now) request (P.Panels.stores panels.old) result (P.Panels.stores panels.new) }
+    ensures law { Continues P.Panels.has (Asks (length lists.old.work.slots.now) (length lists.old.report.slots.now) request) (P.Panels.stores panels.old) (P.Panels.stores panels.new) }
+    ensures reported { lists.new.report.slots.now ≡ report_left request (P.Panels.stores panels.old) (is_ok result) lists.old.report.slots.now }
+    ensures filled { lists.new.report.len ≡ report_count request (P.Panels.stores panels.old) (is_ok result) lists.old.report.len }
+    ensures work { length lists.new.work.slots.now ≡ length lists.old.work.slots.now }
 {
     match request {
-        Request::Write(panel, path, setting) => match panels.write(panel, path, setting) {
-            Ok(clock) => Ok(Answer::Clock(clock)),
-            Err(fault) => Err(fault),
-        },
-        Request::Remove(panel, path) => match panels.remove(panel, path) {
-            Ok(removal) => Ok(Answer::Removed(removal)),
-            Err(fault) => Err(fault),
-        },
-        Request::Sync(source, destination, path) => {
-            match panels.sync(source, destination, path, work, report) {
-                Ok(tally) => Ok(Answer::Synced(tally)),
-                Err(fault) => Err(fault),
-            }
+        Request::Write(panel, path, setting) => {
+            panels.write(panel, path, setting).map(Answer::Clock)
         }
-        Request::Inspect(source, destination, path) => {
-            match panels.inspect(source, destination, path) {
-                Ok(conflict) => Ok(Answer::Found(conflict)),
-                Err(fault) => Err(fault),
-            }
-        }
-        Request::Resolve(source, destination, path, choice) => {
-            match panels.resolve(source, destination, path, choice) {
-                Ok(clock) => Ok(Answer::Clock(clock)),
-                Err(fault) => Err(fault),
-            }
-        }
+        Request::Remove(panel, path) => panels.remove(panel, path).map(Answer::Removed),
+        Request::Sync(meeting) => panels.sync(meeting, lists).map(Answer::Synced),
+        Request::Inspect(meeting) => panels.inspect(meeting).map(Answer::Found),
+        Request::Resolve(meeting, choice) => panels.resolve(meeting, choice).map(Answer::Clock),
     }
 }
 
-// Takes an answer that nobody reads apart.
+// Takes an answer that nobody reads apart. A conflict cannot be dropped, nor can an arm that stands for several answers.
 fn pass_by(answer: Result<Answer, Fault>) {
     match answer {
         Ok(Answer::Found(conflict)) => {
             let Conflict {
-                source: _,
-                destination: _,
-                leaf: _,
+                meeting: _,
                 theirs: _,
                 ours: _,
             } = conflict;
         }
-        Ok(Answer::Clock(_clock)) => {}
-        Ok(Answer::Removed(_removal)) => {}
-        Ok(Answer::Synced(_tally)) => {}
-        Err(_fault) => {}
+        Ok(Answer::Clock(_)) => {}
+        Ok(Answer::Removed(_)) => {}
+        Ok(Answer::Synced(_)) => {}
+        Err(_) => {}
     }
 }
 
 // A list of requests, one after the other; those that are refused change nothing.
-pub fn run<P: Panels>(
-    panels: &mut P,
-    requests: &[Request],
-    work: &mut FrontList<'_, Slot>,
-    report: &mut FrontList<'_, Reported>,
-)
-    requires sound { P.Panels.sound panels.old }
-    requires has { all_name P.Panels.has requests.now ≡ true }
-    ensures law { Continues P.Panels.has (AsksAll (length work.old.slots.now) (length report.old.slots.now) requests.now) (P.Panels.stores panels.old) (P.Panels.stores panels.new) }
-    ensures sound { P.Panels.sound panels.new }
+pub fn run<P: Panels>(panels: &mut P, requests: &[Request], lists: &mut Lists<'_, '_>)
+    requires { all_name P.Panels.has requests.now ≡ true }
+    ensures { Continues P.Panels.has (AsksAll (length lists.old.work.slots.now) (length lists.old.report.slots.now) requests.now) (P.Panels.stores panels.old) (P.Panels.stores panels.new) }
 {
     for request in requests {
-        pass_by(perform(panels, *request, work, report));
+        pass_by(perform(panels, *request, lists));
     }
 }

@@ -1,19 +1,20 @@
 // What can be asked of panels that stand together, and what is answered.
-use engine::answers::{Choice, Conflict, Removal, Tally};
+use engine::answers::{Choice, Conflict, Meeting, Removal};
+use engine::tally::Tally;
 use paths::grade::SettingParts;
 use paths::path::Path;
 use paths::stamp::Panel;
 
-// A call by the numbers of its panels; of two panels the first is the source.
+// A call by the numbers of its panels.
 #[derive(Clone, Copy)]
 pub enum Request {
     Write(Panel, Path, SettingParts),
     Remove(Panel, Path),
-    Sync(Panel, Panel, Path),
+    Sync(Meeting),
     // opens the conflict at a leaf and leaves it
-    Inspect(Panel, Panel, Path),
+    Inspect(Meeting),
     // opens the conflict at a leaf and ends it by a choice
-    Resolve(Panel, Panel, Path, Choice),
+    Resolve(Meeting, Choice),
 }
 
 // A conflict that was found has to be taken apart, as wherever one is held.

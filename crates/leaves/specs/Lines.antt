@@ -3,8 +3,8 @@ use Rattle.std.specs.Prelude.{ℕ, zero, suc, ◌^◌, Bool, false, cond, List, 
 use Rattle.std.specs.Option.{option_map}
 use Rattle.paths.specs.Values.{GradeParts, KnobsParts, StampParts}
 use Rattle.paths.specs.declared.vector.Vector.{Vector}
+use Rattle.engine.specs.declared.leaf.Side.{Side}
 use Rattle.leaves.specs.declared.line.Line.{Line}
-use Rattle.leaves.specs.declared.line.SideParts.{SideParts}
 use Rattle.text.specs.Fields.{before_first, after_first}
 use Rattle.text.specs.Numerals.{numeral}
 
@@ -62,7 +62,7 @@ read_places (suc n) t =
 abbrev pub read_vector : List ℕ → Option Vector
 read_vector t = option_map (λ xs. record { places = xs }) (read_places 8 t)
 
-abbrev pub read_side : List ℕ → List ℕ → Option SideParts
+abbrev pub read_side : List ℕ → List ℕ → Option (Side GradeParts)
 read_side g v =
     and_then (read_grade g) (λ grade.
     and_then (read_vector v) (λ vector.
@@ -71,8 +71,8 @@ read_side g v =
 -- a line as it is read, its leaf by the bytes
 pub record LineText : Type 0 where
   pub leaf : List ℕ
-  pub a : SideParts
-  pub b : SideParts
+  pub a : Side GradeParts
+  pub b : Side GradeParts
 
 abbrev pub line_text : Line → LineText
 line_text l = record { leaf = l.leaf.now; a = l.a; b = l.b }

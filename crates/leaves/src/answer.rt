@@ -1,87 +1,99 @@
 // What is answered to a line.
-ghost use Rattle.std.specs.Prelude.{◌≡◌, Some};
+ghost use Rattle.std.specs.Prelude.{◌≡◌, Some, Ok, Err};
 ghost use Rattle.paths.specs.declared.fault.Fault.TheVariants.{OutOfRange};
 ghost use Rattle.paths.specs.Faults.{nowhere};
 ghost use Rattle.paths.specs.Parts.{MadeOf};
-ghost use Rattle.leaves.specs.Answers.{side_parts, lawful_side, judged, Answered, answer_text};
+ghost use Rattle.leaves.specs.declared.answer.Undecided.TheVariants.{Refused};
+ghost use Rattle.leaves.specs.Answers.{side_parts, lawful_side, Answered, answer_text};
 ghost use Rattle.leaves.specs.Lines.{read_line};
 
-use crate::line::{SideParts, read_line};
+use crate::line::read_line;
 use engine::leaf::{Outcome, Side, decide};
 use paths::fault::{Fault, Refusal, Site};
-use paths::grade::Grade;
+use paths::grade::{Grade, GradeParts};
 use paths::path::Path;
 use std::fmt;
 
+// What a sync does at a leaf; no outcome where both sides are empty.
 #[derive(Clone, Copy)]
-pub enum Answer {
-    // the line has not the form of one
+pub struct Decided {
+    pub leaf: Path,
+    pub outcome: Option<Outcome>,
+}
+
+// Why nothing is decided of a line.
+#[derive(Clone, Copy)]
+pub enum Undecided {
+    // it has not the form of one
     Unread,
     Refused(Fault),
-    // the leaf, and what a sync does there; none where both sides are empty
-    Decided(Path, Option<Outcome>),
 }
 
-pub fn answer_line(text: &[u8]) -> Answer
+impl From<Fault> for Undecided {
+    ghost from_gives = { λ fault undecided. undecided ≡ Refused fault };
+
+    fn from(fault: Fault) -> Undecided {
+        Self::Refused(fault)
+    }
+}
+
+pub fn answer_line(text: &[u8]) -> Result<Decided, Undecided>
     ensures { Answered (read_line text.now) result }
 {
-    let Some(line) = read_line(text) else {
-        return Answer::Unread;
-    };
-    match Path::try_from(line.leaf) {
-        Ok(path) => judge(path, line.a, line.b),
-        Err(fault) => Answer::Refused(fault),
+    let line = read_line(text).ok_or(Undecided::Unread)?;
+    let leaf = Path::try_from(line.leaf)?;
+    if !leaf.is_leaf() {
+        let site = Site {
+            path: leaf,
+            panel: None,
+        };
+        return Err(Undecided::Refused(Fault::NoLeaf(site)));
     }
+    let a = side(line.a)?;
+    let b = side(line.b)?;
+    Ok(Decided {
+        leaf,
+        outcome: decide(a, b),
+    })
 }
 
-fn judge(path: Path, a: SideParts, b: SideParts) -> Answer
-    ensures { result ≡ judged path a b }
-{
-    if !path.is_leaf() {
-        return Answer::Refused(Fault::NoLeaf(Site { path, panel: None }));
-    }
-    match side(a) {
-        Err(fault) => Answer::Refused(fault),
-        Ok(a) => match side(b) {
-            Err(fault) => Answer::Refused(fault),
-            Ok(b) => Answer::Decided(path, decide(a, b)),
-        },
-    }
-}
-
-fn side(parts: SideParts) -> Result<Side, Fault>
+fn side(parts: Side<GradeParts>) -> Result<Side<Grade>, Fault>
     ensures { MadeOf side_parts parts (lawful_side parts.grade) (OutOfRange nowhere) result }
 {
-    let grade = match parts.grade {
-        Some(grade) => Some(Grade::try_from(grade)?),
-        None => None,
-    };
     Ok(Side {
-        grade,
+        grade: parts.grade.map(Grade::try_from).transpose()?,
         vector: parts.vector,
     })
 }
 
-impl fmt::Display for Answer {
-    ghost output = { λ a. Some (answer_text a) };
+impl fmt::Display for Decided {
+    ghost output = { λ d. Some (answer_text (Ok d)) };
+
+    fn fmt<W: fmt::Write>(&self, f: &mut fmt::Formatter<W>) -> fmt::Result {
+        let leaf = self.leaf;
+        match self.outcome {
+            None => write!(f, "{leaf} empty"),
+            Some(Outcome::Kept) => write!(f, "{leaf} kept"),
+            Some(Outcome::Taken) => write!(f, "{leaf} taken"),
+            Some(Outcome::Removed) => write!(f, "{leaf} removed"),
+            Some(Outcome::Conflict(kind)) => {
+                let number = u8::from(kind);
+                write!(f, "{leaf} conflict {number}")
+            }
+        }
+    }
+}
+
+impl fmt::Display for Undecided {
+    ghost output = { λ u. Some (answer_text (Err u)) };
 
     fn fmt<W: fmt::Write>(&self, f: &mut fmt::Formatter<W>) -> fmt::Result {
         match *self {
-            Answer::Unread => write!(f, "?"),
-            Answer::Refused(fault) => {
+            Undecided::Unread => write!(f, "?"),
+            Undecided::Refused(fault) => {
                 let number = Refusal::from(fault).number;
                 write!(f, "no {number}")
             }
-            Answer::Decided(path, outcome) => match outcome {
-                None => write!(f, "{path} empty"),
-                Some(Outcome::Kept) => write!(f, "{path} kept"),
-                Some(Outcome::Taken) => write!(f, "{path} taken"),
-                Some(Outcome::Removed) => write!(f, "{path} removed"),
-                Some(Outcome::Conflict(kind)) => {
-                    let number = kind.number();
-                    write!(f, "{path} conflict {number}")
-                }
-            },
         }
     }
 }

@@ -3,29 +3,24 @@ ghost use Rattle.std.specs.Prelude.{◌≡◌, ◌-◌, ◌++◌, replicate};
 ghost use Rattle.std.specs.Option.{option_map};
 ghost use Rattle.leaves.specs.Lines.{read_stamp, read_stamps, read_grade, read_place, read_places, read_vector, read_side, read_line, line_text};
 
+use engine::leaf::Side;
 use paths::grade::{GradeParts, Knobs};
 use paths::stamp::{Panel, StampParts};
 use paths::vector::Vector;
 use text::{read_number, split_first};
 
-// What a panel is said to have at a leaf: its grade, if any, and the vector there.
-#[derive(Clone, Copy)]
-pub struct SideParts {
-    pub grade: Option<GradeParts>,
-    pub vector: Vector,
-}
-
 // A is the panel that a sync goes from, and B the one that it goes onto.
 #[derive(Clone, Copy)]
 pub struct Line<'a> {
     pub leaf: &'a [u8],
-    pub a: SideParts,
-    pub b: SideParts,
+    pub a: Side<GradeParts>,
+    pub b: Side<GradeParts>,
 }
 
 pub fn read_line(text: &[u8]) -> Option<Line<'_>>
     ensures { option_map line_text result ≡ read_line text.now }
 {
+    // Through the library's splitn each of seven exits would need a proof of its own; here none does.
     let (leaf, rest) = split_first(text, b' ');
     let (grade_a, rest) = split_first(rest?, b' ');
     let (vector_a, rest) = split_first(rest?, b' ');
@@ -35,10 +30,10 @@ pub fn read_line(text: &[u8]) -> Option<Line<'_>>
     Some(Line { leaf, a, b })
 }
 
-fn read_side(grade: &[u8], vector: &[u8]) -> Option<SideParts>
+fn read_side(grade: &[u8], vector: &[u8]) -> Option<Side<GradeParts>>
     ensures { result ≡ read_side grade.now vector.now }
 {
-    Some(SideParts {
+    Some(Side {
         grade: read_grade(grade)?,
         vector: read_vector(vector)?,
     })
@@ -76,40 +71,31 @@ fn read_grade(text: &[u8]) -> Option<Option<GradeParts>>
 {
     match text {
         [b'-'] => Some(None),
-        _ => Some(Some(read_stamps(text)?)),
+        _ => read_stamps(text).map(Some),
     }
 }
 
 fn read_place(text: &[u8]) -> Option<u32>
     ensures { result ≡ read_place text.now }
 {
-    match read_number(text)? {
-        x if x < 0x1_0000_0000 => Some(x as u32),
-        _ => None,
-    }
+    u32::try_from(read_number(text)?).ok()
 }
 
-// The places from the one at index i on; those before it are left 0.
-fn read_places(text: &[u8], i: usize) -> Option<[u32; Panel::COUNT]>
-    ensures { result ≡ option_map (λ xs. replicate i 0 ++ xs) (read_places (8 - i) text.now) }
-{
-    if i >= Panel::COUNT {
-        return None;
-    }
-    let (first, rest) = split_first(text, b',');
-    let place = read_place(first)?;
-    let mut places = match rest {
-        None => [0; Panel::COUNT],
-        Some(rest) => read_places(rest, i + 1)?,
-    };
-    places[i] = place;
-    Some(places)
-}
-
+// The places that are left out are 0.
 fn read_vector(text: &[u8]) -> Option<Vector>
     ensures { result ≡ read_vector text.now }
 {
-    Some(Vector {
-        places: read_places(text, 0)?,
-    })
+    let mut places = [0; Panel::COUNT];
+    let mut rest = Some(text);
+    for place in &mut places {
+        if let Some(text) = rest {
+            let (first, after) = split_first(text, b',');
+            *place = read_place(first)?;
+            rest = after;
+        }
+    }
+    match rest {
+        None => Some(Vector { places }),
+        Some(_) => None,
+    }
 }

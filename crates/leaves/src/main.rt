@@ -3,19 +3,22 @@
 
 mod answer;
 mod line;
-mod tally;
+mod totals;
 
 use answer::answer_line;
 use std::io;
 use std::io::{BufRead, BufReader};
-use tally::Tally;
+use totals::Totals;
 
 fn main(rt: HostRuntime) -> io::Result<()> {
-    let mut tally = Tally::NONE;
+    let mut totals = Totals::default();
     for line in BufReader::new(rt.alloc(), rt.stdin())?.split(rt.alloc(), b'\n') {
         let answer = answer_line(line?.as_slice());
-        println!(rt; "{answer}")?;
-        tally = tally.and(answer);
+        match answer {
+            Ok(decided) => println!(rt; "{decided}")?,
+            Err(undecided) => println!(rt; "{undecided}")?,
+        }
+        totals += Totals::from(answer);
     }
-    println!(rt; "{tally}")
+    println!(rt; "{totals}")
 }

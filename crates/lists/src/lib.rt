@@ -1,24 +1,8 @@
 // A list that is filled from the front of a slice which the caller lends. Places behind those it fills stay as they are.
 #![tactic(auto)]
 
-ghost use Rattle.std.specs.Prelude.{◌≡◌, ◌+◌, ◌-◌, ◌<◌, ◌≤◌, ◌&&◌, List, length, if◌then◌else◌, MatchBool, nat_le, nat_lt, slice_set};
+ghost use Rattle.std.specs.Prelude.{◌≡◌, ◌+◌, ◌-◌, ◌<◌, ◌≤◌, ◌&&◌, length, take, if◌then◌else◌, MatchBool, nat_le, nat_lt, slice_set};
 ghost use Rattle.lists.specs.Front.{Inserts, Removes};
-
-// Turns the places from the i-th to the last-th by one: the last comes first, so that what was written there is inserted.
-fn turn_right<T: Copy>(slots: &mut [T], i: usize, last: usize)
-    requires { (i ≤ last) × (last < length slots.old) }
-    ensures { (before : List T) (x : T) → slots.old ≡ slice_set before last x → Inserts before slots.new last i x }
-{
-    slots[i..last + 1].rotate_right(1);
-}
-
-// Turns them the other way: the first comes last.
-fn turn_left<T: Copy>(slots: &mut [T], i: usize, last: usize)
-    requires { (i ≤ last) × (last < length slots.old) }
-    ensures { Removes slots.old slots.new last i }
-{
-    slots[i..last + 1].rotate_left(1);
-}
 
 // Puts x before the i-th of the first len places, which are filled.
 pub fn insert_slot<T: Copy>(slots: &mut [T], len: usize, i: usize, x: T)
@@ -26,7 +10,7 @@ pub fn insert_slot<T: Copy>(slots: &mut [T], len: usize, i: usize, x: T)
     ensures { Inserts slots.old slots.new len i x }
 {
     slots[len] = x;
-    turn_right(slots, i, len);
+    slots[i..=len].rotate_right(1);
 }
 
 // Takes the i-th of the first rest + 1 places out; the rest stay filled.
@@ -34,7 +18,7 @@ pub fn remove_slot<T: Copy>(slots: &mut [T], rest: usize, i: usize)
     requires { (i ≤ rest) × (rest < length slots.old) }
     ensures { Removes slots.old slots.new rest i }
 {
-    turn_left(slots, i, rest);
+    slots[i..=rest].rotate_left(1);
 }
 
 // Puts x at the place i.
@@ -52,6 +36,14 @@ pub struct FrontList<'a, T> {
 }
 
 impl<'a, T: Copy> FrontList<'a, T> {
+    // The filled places.
+    pub fn filled(&self) -> &[T]
+        ensures { result.now ≡ take self.now.len self.now.slots.now }
+    {
+        let len = self.len.min(self.slots.len());
+        &self.slots[..len]
+    }
+
     // How many places there are, filled or not.
     pub fn room(&self) -> usize
         ensures { result ≡ length self.now.slots.now }
@@ -64,6 +56,7 @@ impl<'a, T: Copy> FrontList<'a, T> {
         ensures answer { result ≡ nat_lt i (length self.old.slots.now) }
         ensures len { self.new.len ≡ self.old.len }
         ensures slots { self.new.slots.now ≡ slice_set self.old.slots.now i x }
+        ensures room { length self.new.slots.now ≡ length self.old.slots.now }
         ensures same { self.new.slots.ghost_name ≡ self.old.slots.ghost_name }
     {
         if i >= self.slots.len() {
@@ -78,14 +71,14 @@ impl<'a, T: Copy> FrontList<'a, T> {
         ensures answer { result ≡ (nat_le i self.old.len && nat_lt self.old.len (length self.old.slots.now)) }
         ensures len { self.new.len ≡ (if result then self.old.len + 1 else self.old.len) }
         ensures slots { MatchBool result (Inserts self.old.slots.now self.new.slots.now self.old.len i x) (self.new.slots.now ≡ self.old.slots.now) }
+        ensures room { length self.new.slots.now ≡ length self.old.slots.now }
         ensures same { self.new.slots.ghost_name ≡ self.old.slots.ghost_name }
     {
-        let len = self.len;
-        if i > len || len >= self.slots.len() {
+        if i > self.len || self.len >= self.slots.len() {
             return false;
         }
-        insert_slot(self.slots, len, i, x);
-        self.len = len + 1;
+        insert_slot(self.slots, self.len, i, x);
+        self.len += 1;
         true
     }
 
@@ -94,14 +87,14 @@ impl<'a, T: Copy> FrontList<'a, T> {
         ensures answer { result ≡ nat_lt self.old.len (length self.old.slots.now) }
         ensures len { self.new.len ≡ (if result then self.old.len + 1 else self.old.len) }
         ensures slots { self.new.slots.now ≡ slice_set self.old.slots.now self.old.len x }
+        ensures room { length self.new.slots.now ≡ length self.old.slots.now }
         ensures same { self.new.slots.ghost_name ≡ self.old.slots.ghost_name }
     {
-        let len = self.len;
-        if len >= self.slots.len() {
+        if self.len >= self.slots.len() {
             return false;
         }
-        set_slot(self.slots, len, x);
-        self.len = len + 1;
+        set_slot(self.slots, self.len, x);
+        self.len += 1;
         true
     }
 
@@ -110,14 +103,14 @@ impl<'a, T: Copy> FrontList<'a, T> {
         ensures answer { result ≡ (nat_lt i self.old.len && nat_le self.old.len (length self.old.slots.now)) }
         ensures len { self.new.len ≡ (if result then self.old.len - 1 else self.old.len) }
         ensures slots { MatchBool result (Removes self.old.slots.now self.new.slots.now (self.old.len - 1) i) (self.new.slots.now ≡ self.old.slots.now) }
+        ensures room { length self.new.slots.now ≡ length self.old.slots.now }
         ensures same { self.new.slots.ghost_name ≡ self.old.slots.ghost_name }
     {
-        let len = self.len;
-        if i >= len || len > self.slots.len() {
+        if i >= self.len || self.len > self.slots.len() {
             return false;
         }
-        remove_slot(self.slots, len - 1, i);
-        self.len = len - 1;
+        self.len -= 1;
+        remove_slot(self.slots, self.len, i);
         true
     }
 }

@@ -1,6 +1,6 @@
 -- The join of what a path covers, by a scan of the run of its slots.
-use Rattle.std.proofs.Common.{◌≡◌, ℕ, zero, suc, ◌+◌, ◌<◌, ◌≤◌, Bool, true, false, ltb, List, [], ◌∷◌, length, get_or, drop, sym, refl, ap, ◌∙◌, ap₂, arith}
-use Rattle.std.proofs.lemmas.List.{get_or_default, at_drop_more, at_drop_all}
+use Rattle.std.proofs.Common.{◌≡◌, ℕ, zero, suc, ◌+◌, ◌-◌, ◌<◌, ◌≤◌, Bool, true, false, ltb, List, [], ◌∷◌, length, get_or, take, drop, sym, refl, ap, ap₂, subst, ◌∙◌, arith, length-drop}
+use Rattle.std.proofs.lemmas.List.{length-take, get_or-take, get_or-drop, drop_more, drop_all}
 use Rattle.std.proofs.lemmas.Bool.{and_parts, cond-true, cond-false, cond_both, ltb-true}
 use Rattle.paths.specs.Steps.{levels, covers}
 use Rattle.paths.specs.declared.path.Path.{Path}
@@ -9,10 +9,24 @@ use Rattle.paths.proofs.Values.{path-lawful}
 use Rattle.stores.specs.Meaning.{nearest, joined_below}
 use Rattle.stores.specs.Slots.{key, after, rises, place}
 use Rattle.stores.specs.declared.entry.Slot.{Slot}
-use Rattle.stores.proofs.Order.{from_place}
+use Rattle.stores.proofs.Order.{after-at}
 
 abbrev covered : Path → Slot → Bool
 covered p s = covers levels p.number (key s)
+
+rises-drop : (es : List Slot) (n : ℕ) → rises es ≡ true → rises (drop n es) ≡ true
+rises-drop es zero h = h
+rises-drop [] (suc n) h = refl
+rises-drop (s ∷ es) (suc n) h = rises-drop es n (grind arith)
+
+-- from the path's place on no slot comes before it
+from_place :
+    (es : List Slot) (q i : ℕ) (d : Slot) → rises es ≡ true → place es q ≤ i → i < length es → q ≤ key (get_or es i d)
+from_place [] q i d h le lt = absurd (omega arith)
+from_place (s ∷ es) q zero d h le lt = grind arith
+from_place (s ∷ es) q (suc i) d h le lt =
+    let first : key s < key (get_or es i d) = after-at (key s) es i d (grind arith) (omega arith) in
+    grind (arith, from_place es q i d)
 
 module _ (join : List ℕ → List ℕ → List ℕ) (p : Path) where
   abbrev joined : List Slot → List ℕ → List ℕ
@@ -45,49 +59,48 @@ module _ (join : List ℕ → List ℕ → List ℕ) (p : Path) where
       (ltb-true _ _ less))
       ∙ joined_past s es v le out rest
 
-  -- so the join ends at such a slot
-  joined_end :
-      (es : List Slot) (i : ℕ) (v : List ℕ) (d : Slot) → rises es ≡ true → i < length es → p.number ≤ key (get_or es i d)
-      → covered p (get_or es i d) ≡ false → joined (drop i es) v ≡ v
-  joined_end [] i v d h lt le out = absurd (omega arith)
-  joined_end (s ∷ es) zero v d h lt le out = skip s es v out ∙ joined_past s es v le out (and_parts _ _ h).0
-  joined_end (s ∷ es) (suc i) v d h lt le out = joined_end es i v d (and_parts _ _ h).1 (omega arith) le out
+-- a scan of the slots from the path's place on; s is the k-th of them
+module _ (join : List ℕ → List ℕ → List ℕ) (p : Path) (es : List Slot) {first : ℕ} (at : first ≡ place es p.number) where
+  pub scan_begins :
+      {v : List ℕ} → v ≡ nearest es p.number
+      → joined join p (drop (first + 0) es) v ≡ joined join p es (nearest es p.number)
+  scan_begins is =
+      ap₂ (λ n w. joined join p (drop n es) w) (omega (arith, at)) is ∙ joined-from join p es (nearest es p.number)
 
--- v, joined with the covered slots from i on, is the join of the nearest vector with all that are covered
-pub record Scanned (join : List ℕ → List ℕ → List ℕ) (es : List Slot) (p : Path) (i : ℕ) (v : List ℕ) : Type 0 where
-  pub begun : place es p.number ≤ i
-  pub rest : joined join p (drop i es) v ≡ joined join p es (nearest es p.number)
+  module _ {k : ℕ} {s : Slot} (v : List ℕ) (lt : k < length (take (length es - first) (drop first es)))
+      (is : s ≡ get_or (take (length es - first) (drop first es)) k s) where
+    within : first + k < length es
+    within = omega (arith, lt, length-take (length es - first) (drop first es), length-drop first es)
 
-module _ {join : List ℕ → List ℕ → List ℕ} {es : List Slot} {p : Path} {i : ℕ} {v : List ℕ} where
-  -- a scan begins at the path's place with the nearest vector
-  pub scan_begins : i ≡ place es p.number → v ≡ nearest es p.number → Scanned join es p i v
-  scan_begins at is =
-      record {
-        begun = omega arith;
-        rest = ap₂ (λ k w. joined join p (drop k es) w) at is ∙ joined-from join p es (nearest es p.number);
-      }
+    here : s ≡ get_or es (first + k) s
+    here =
+        is ∙ get_or-take (length es - first) (drop first es) k s (omega (arith, within)) ∙ get_or-drop first es k s
 
-  -- it joins a covered slot
-  pub scan_goes_on :
-      {w : List ℕ} (d e : Slot) → Scanned join es p i v → i < length es → covered p (get_or es i d) ≡ true
-      → w ≡ join v (get_or es i e).entry.vector.places → Scanned join es p (i + 1) w
-  scan_goes_on {w} d e scanned lt is more =
-      record {
-        begun = omega (arith, scanned.begun);
-        rest =
-            ap (joined join p (drop (i + 1) es)) (same ∙ sym (cond-true _ _ _ is))
-            ∙ sym (at_drop_more (λ t. joined join p t v) es i d lt) ∙ scanned.rest;
-      }
-    where
-      same : w ≡ join v (get_or es i d).entry.vector.places
-      same = more ∙ ap (λ s. join v s.entry.vector.places) (get_or_default es i e d lt)
+    from_here : drop (first + k) es ≡ s ∷ drop (first + (k + 1)) es
+    from_here =
+        drop_more es (first + k) s within
+        ∙ ap₂ (λ t n. t ∷ drop n es) (sym here) (omega arith)
 
-  -- at a slot that is not covered, or past the last, it has joined all
-  pub scan_stops :
-      (d : Slot) → rises es ≡ true → Scanned join es p i v → i < length es → covered p (get_or es i d) ≡ false
-      → v ≡ joined join p es (nearest es p.number)
-  scan_stops d h scanned lt out =
-      sym (joined_end join p es i v d h lt (from_place es p.number i d h scanned.begun lt) out) ∙ scanned.rest
+    -- it joins a covered slot
+    pub scan_goes_on :
+        {w answer : List ℕ} → covered p s ≡ true → w ≡ join v s.entry.vector.places
+        → joined join p (drop (first + k) es) v ≡ answer → joined join p (drop (first + (k + 1)) es) w ≡ answer
+    scan_goes_on in_it more left =
+        ap (joined join p (drop (first + (k + 1)) es)) (more ∙ sym (cond-true _ _ _ in_it))
+        ∙ sym (ap (λ t. joined join p t v) from_here) ∙ left
 
-  pub scan_ends : Scanned join es p i v → length es ≤ i → v ≡ joined join p es (nearest es p.number)
-  scan_ends scanned end = sym (at_drop_all (λ t. joined join p t v) es i end) ∙ scanned.rest
+    -- at a slot that is not covered it has joined all
+    pub scan_stops : rises es ≡ true → covered p s ≡ false → joined join p (drop (first + k) es) v ≡ v
+    scan_stops h out =
+        let ge : p.number ≤ key s =
+        subst (λ t. p.number ≤ key t) (sym here) (from_place es p.number (first + k) s h (omega (arith, at)) within) in
+        let rest = subst (λ t. rises t ≡ true) from_here (rises-drop es (first + k) h) in
+        ap (λ t. joined join p t v) from_here ∙ skip join p s (drop (first + (k + 1)) es) v out
+        ∙ joined_past join p s (drop (first + (k + 1)) es) v ge out (and_parts _ (rises (drop (first + (k + 1)) es)) rest).0
+
+  -- and so past the last
+  pub scan_ends :
+      {k : ℕ} (v : List ℕ) → length (take (length es - first) (drop first es)) ≤ k → joined join p (drop (first + k) es) v ≡ v
+  scan_ends {k} v end =
+      ap (λ t. joined join p t v)
+      (drop_all (first + k) es (omega (arith, end, length-take (length es - first) (drop first es), length-drop first es)))

@@ -1,158 +1,108 @@
 -- Slots at the front of a slice: what a change of the slice does to them.
-use Rattle.std.proofs.Common.{◌≡◌, ℕ, zero, suc, ◌+◌, ◌-◌, ◌<◌, ◌≤◌, true, false, cond, not, ◌&&◌, eqb, List, [], ◌∷◌, ◌++◌, length, take, drop, set, is_some, Some, None, Ok, Err, Option, Result, sym, refl, ap, ◌∙◌, subst, ap₂, arith}
-use Rattle.std.proofs.lemmas.List.{take-take, length-take, length-take-le, drop-take, drop-set-lt}
-use Rattle.std.proofs.lemmas.Bool.{cond-true, cond-false, ne_eqb}
-use Rattle.std.specs.Option.{unwrap_or}
+use Rattle.std.proofs.Common.{◌≡◌, ℕ, suc, ◌+◌, ◌-◌, ◌<◌, ◌≤◌, Bool, true, cond, ◌&&◌, ltb, leb, List, [], ◌∷◌, ◌++◌, length, take, drop, set, is_some, None, Ok, Err, sym, refl, ap, ◌∙◌, subst, ap₂, add-one, arith, MatchBool}
+use Rattle.std.proofs.Math.Seq.{take-set-lt}
+use Rattle.std.proofs.lemmas.Bool.{cond-true, cond-false, and_from, lt-ltb, le-leb}
+use Rattle.std.proofs.lemmas.List.{take-take, length-take, length-take-le, drop-take}
 use Rattle.lists.specs.Front.{Inserts, Removes}
 use Rattle.stores.proofs.Entries.{put_count}
-use Rattle.stores.proofs.Order.{put_entered, put_new, drop_entered, dropped_entered, entered_within, place_le}
-use Rattle.stores.specs.Slots.{Sought, key, lookup, put, drop as drop_slots, dropped, rises, place}
+use Rattle.stores.proofs.Order.{put_entered, put_new, drop_entered, dropped_entered}
+use Rattle.stores.specs.Slots.{Sought, key, lookup, put, drop as drop_slots, dropped, rises}
 use Rattle.stores.specs.declared.entry.Slot.{Slot}
 
--- s is put among the first n, unless it is new and there are `most` already; r is the count after it
-pub record PutFront (before after : List Slot) (n most : ℕ) (s : Slot) (r : Option ℕ) : Type 0 where
-  pub answer :
-      r ≡ cond (not (is_some (lookup (take n before) (key s))) && eqb n most) None
-      (Some (length (put (take n before) s)))
-  pub held : take (unwrap_or r n) after ≡ cond (is_some r) (put (take n before) s) (take n before)
-  pub behind : drop (unwrap_or r n) after ≡ drop (unwrap_or r n) before
-
--- the slot of q is taken out of the first n, and comes behind those left; r is the count after it, if there was one
-pub record DropFront (before after : List Slot) (n q : ℕ) (r : Option ℕ) : Type 0 where
-  pub answer : r ≡ cond (is_some (lookup (take n before) q)) (Some (n - 1)) None
-  pub held : take (unwrap_or r n) after ≡ drop_slots (take n before) q
-  pub behind : drop (unwrap_or r n) after ≡ dropped (take n before) q ++ drop n before
-
-take-set_lt : {X : Type 0} (xs : List X) (n i : ℕ) (x : X) → i < n → take n (set xs i x) ≡ set (take n xs) i x
-take-set_lt xs zero i x lt = absurd (omega arith)
-take-set_lt [] (suc n) i x lt = refl
-take-set_lt (y ∷ xs) (suc n) zero x lt = refl
-take-set_lt (y ∷ xs) (suc n) (suc i) x lt = ap (λ t. y ∷ t) (take-set_lt xs n i x (omega arith))
-
-pub drop_none : (es : List Slot) (q : ℕ) → is_some (lookup es q) ≡ false → drop_slots es q ≡ es
-drop_none [] q h = refl
-drop_none (s ∷ es) q h = grind (arith, drop_none es q)
-
-place-take : (xs : List Slot) (n q : ℕ) → place (take n xs) q ≤ n
-place-take xs n q = omega (arith, place_le (take n xs) q, length-take n xs)
-
-head : (es : List Slot) → 0 < length es → Slot
-head [] some = absurd (omega arith)
-head (s ∷ es) some = s
-
-module _ (xs : List Slot) (n : ℕ) (h : rises (take n xs) ≡ true) where
-  pub set-held :
-      (s : Slot) → is_some (lookup (take n xs) (key s)) ≡ true
-      → take n (set xs (place (take n xs) (key s)) s) ≡ put (take n xs) s
-  set-held s found =
-      take-set_lt xs n _ s (omega (arith, entered_within (take n xs) (key s) found, length-take n xs))
-      ∙ sym (put_entered (take n xs) s h found)
-
-  pub insert_held :
-      (ys : List Slot) (s : Slot) → is_some (lookup (take n xs) (key s)) ≡ false
-      → Inserts xs ys n (place (take n xs) (key s)) s → take (n + 1) ys ≡ put (take n xs) s
-  insert_held ys s none moved =
-      moved.held
-      ∙ ap (λ t. t ++ (s ∷ drop (place (take n xs) (key s)) (take n xs))) (sym (take-take _ n xs (place-take xs n (key s))))
-      ∙ sym (put_new (take n xs) s h none)
-
-  pub remove-held :
-      (ys : List Slot) (q : ℕ) → is_some (lookup (take n xs) q) ≡ true → n - 1 + 1 ≡ n
-      → Removes xs ys (n - 1) (place (take n xs) q) → take (n - 1) ys ≡ drop_slots (take n xs) q
-  remove-held ys q found some moved =
-      moved.held
-      ∙ ap₂ (λ front k. front ++ drop (place (take n xs) q + 1) (take k xs))
-      (sym (take-take _ n xs (place-take xs n q))) some
-      ∙ sym (drop_entered (take n xs) q (head (take n xs) (omega (arith, entered_within (take n xs) q found))) h found)
-
--- how many there are after a put
-module _ (xs : List Slot) (n most : ℕ) (s : Slot) (h : rises (take n xs) ≡ true) (le : n ≤ length xs) where
-  pub count_entered :
-      is_some (lookup (take n xs) (key s)) ≡ true
-      → Some n ≡ cond (not (is_some (lookup (take n xs) (key s))) && eqb n most) None (Some (length (put (take n xs) s)))
-  count_entered found =
-      let count : length (put (take n xs) s) ≡ n =
-      put_count (take n xs) s h ∙ cond-true _ _ _ found ∙ length-take-le n xs le in
-      ap Some (sym count) ∙ sym (ap (λ b. cond (not b && eqb n most) None (Some (length (put (take n xs) s)))) found)
-
-  pub count_new :
-      is_some (lookup (take n xs) (key s)) ≡ false → (n ≡ most → ⊥)
-      → Some (n + 1)
-      ≡ cond (not (is_some (lookup (take n xs) (key s))) && eqb n most) None (Some (length (put (take n xs) s)))
-  count_new none room =
-      let count : length (put (take n xs) s) ≡ n + 1 =
-      put_count (take n xs) s h ∙ cond-false _ _ _ none ∙ ap (λ k. k + 1) (length-take-le n xs le) in
-      ap Some (sym count)
-      ∙ sym
-      (ap₂ (λ b c. cond (not b && c) None (Some (length (put (take n xs) s)))) none (ne_eqb n most room))
-
--- the slot at a place of the front
-first_of_front : (xs : List Slot) (n i : ℕ) → i < n → take 1 (drop i (take n xs)) ≡ take 1 (drop i xs)
-first_of_front xs n i lt =
-    let split : n ≡ i + (n - i) = omega arith in
-    ap (λ k. take 1 (drop i (take k xs))) split ∙ ap (take 1) (drop-take i (n - i) xs)
-    ∙ take-take 1 (n - i) (drop i xs) (omega arith)
+drop_none : (es : List Slot) (q : ℕ) → lookup es q ≡ None → drop_slots es q ≡ es
+drop_none [] q none = refl
+drop_none (s ∷ es) q none = grind (arith, drop_none es q)
 
 dropped_none : (es : List Slot) (q : ℕ) → lookup es q ≡ None → dropped es q ≡ []
 dropped_none [] q none = refl
 dropped_none (s ∷ es) q none = grind (arith, dropped_none es q)
 
--- the front of a slice, as the code cuts it
-sought_front :
-    (xs : List Slot) (n q : ℕ) (r : Result ℕ ℕ) → Sought (take (n - 0) xs) q r → Sought (take n xs) q r
-sought_front xs n q r = subst (λ k. Sought (take k xs) q r) (omega arith)
+hit : (es : List Slot) (q i : ℕ) → Sought es q (Ok i) → is_some (lookup es q) ≡ true
+hit [] q i found = absurd (omega arith)
+hit (s ∷ es) q i found = ap is_some (found.2 s)
 
--- what a put does at a path that is entered, and at another
-module _ {xs ys : List Slot} {n i : ℕ} (most : ℕ) {s : Slot} (h : rises (take n xs) ≡ true) (le : n ≤ length xs) where
-  pub put-found : Sought (take (n - 0) xs) (key s) (Ok i) → ys ≡ set xs i s → PutFront xs ys n most s (Some n)
-  put-found sought is =
-      let (at, lt, hit) = sought_front xs n (key s) (Ok i) sought in
-      let found = ap is_some (hit s) in
-      record {
-        answer = count_entered xs n most s h le found;
-        held = ap (take n) (is ∙ ap (λ k. set xs k s) at) ∙ set-held xs n h s found;
-        behind = ap (drop n) is ∙ drop-set-lt n xs i s (omega (arith, length-take n xs));
-      }
+-- the slot at a place of the front
+first_of_front : (xs : List Slot) (n i : ℕ) → i < n → take 1 (drop i (take n xs)) ≡ take 1 (drop i xs)
+first_of_front xs n i lt =
+    ap (λ k. take 1 (drop i (take k xs))) (omega arith) ∙ ap (take 1) (drop-take i (n - i) xs)
+    ∙ take-take 1 (n - i) (drop i xs) (omega arith)
 
-  pub put_missed :
-      Sought (take (n - 0) xs) (key s) (Err i) → (n ≡ most → ⊥) → Inserts xs ys n i s
-      → PutFront xs ys n most s (Some (n + 1))
-  put_missed sought room moved =
-      let (at, end, none) = sought_front xs n (key s) (Err i) sought in
-      record {
-        answer = count_new xs n most s h le (ap is_some none) room;
-        held = insert_held xs n h ys s (ap is_some none) (subst (λ k. Inserts xs ys n k s) at moved);
-        behind = moved.behind;
-      }
+module _ (xs : List Slot) (n i : ℕ) (s : Slot) (h : rises (take n xs) ≡ true) (le : n ≤ length xs) (sought : Sought (take n xs) (key s) (Ok i)) where
+  pub set-held : (ys : List Slot) → ys ≡ set xs i s → take n ys ≡ put (take n xs) s
+  set-held ys is =
+      ap (take n) is ∙ take-set-lt n xs i s (omega (arith, sought.1, length-take n xs))
+      ∙ ap (λ k. set (take n xs) k s) sought.0 ∙ sym (put_entered (take n xs) s h (hit (take n xs) (key s) i sought))
 
--- what a drop does at a path that is entered, and at another
-module _ {xs : List Slot} {n i q : ℕ} where
-  pub drop-found :
-      (ys : List Slot) → rises (take n xs) ≡ true → n ≤ length xs → Sought (take (n - 0) xs) q (Ok i) → Removes xs ys (n - 1) i
-      → DropFront xs ys n q (Some (n - 1))
-  drop-found ys h le sought moved =
-      let (at, lt, hit) = sought_front xs n q (Ok i) sought in
-      let some : n - 1 + 1 ≡ n = omega (arith, length-take n xs) in
-      let d = head (take n xs) (omega arith) in
-      let found = ap is_some (hit d) in
-      let there = subst (λ k. Removes xs ys (n - 1) k) at moved in
-      record {
-        answer = sym (cond-true _ _ _ found);
-        held = remove-held xs n h ys q found some there;
-        behind =
-            there.behind
-            ∙ ap₂ (λ out k. out ++ drop k xs)
-            (sym
-            (dropped_entered (take n xs) q d h found
-            ∙ first_of_front xs n (place (take n xs) q) (omega (arith, at, length-take n xs))))
-            some;
-      }
+  pub set-len : n ≡ length (put (take n xs) s)
+  set-len =
+      sym (length-take-le n xs le)
+      ∙ sym (put_count (take n xs) s h ∙ cond-true _ _ _ (hit (take n xs) (key s) i sought))
 
-  pub drop_missed : Sought (take (n - 0) xs) q (Err i) → DropFront xs xs n q None
-  drop_missed sought =
-      let (at, end, none) = sought_front xs n q (Err i) sought in
-      record {
-        answer = sym (cond-false _ _ _ (ap is_some none));
-        held = sym (drop_none (take n xs) q (ap is_some none));
-        behind = sym (ap (λ out. out ++ drop n xs) (dropped_none (take n xs) q none));
-      }
+-- the path of q stands among the first n, at i
+module _ (xs : List Slot) (n q i : ℕ) (h : rises (take n xs) ≡ true) (le : n ≤ length xs) (sought : Sought (take n xs) q (Ok i)) where
+  entered : is_some (lookup (take n xs) q) ≡ true
+  entered = hit (take n xs) q i sought
+
+  within : i < n
+  within = omega (arith, sought.1, length-take n xs)
+
+  module _ (ys : List Slot) (m : ℕ) (b : Bool) (answer : b ≡ (ltb i n && leb n (length xs))) (len : m ≡ cond b (n - 1) n)
+      (slots : MatchBool b (Removes xs ys (n - 1) i) (ys ≡ xs)) where
+    yes : b ≡ true
+    yes = answer ∙ and_from (ltb i n) (leb n (length xs)) (lt-ltb i n within) (le-leb n (length xs) le)
+
+    fewer : m ≡ n - 1
+    fewer = len ∙ ap (λ t. cond t (n - 1) n) yes
+
+    moved : Removes xs ys (n - 1) i
+    moved = subst (λ t. MatchBool t (Removes xs ys (n - 1) i) (ys ≡ xs)) yes slots
+
+    pub remove-held : take m ys ≡ drop_slots (take n xs) q
+    remove-held =
+        ap (λ k. take k ys) fewer ∙ moved.held
+        ∙ ap₂ (λ front k. front ++ drop (i + 1) (take k xs)) (sym (take-take i n xs (omega (arith, within)))) (omega (arith, within))
+        ∙ ap₂ (λ k l. take k (take n xs) ++ drop l (take n xs)) sought.0 (add-one i ∙ ap suc sought.0)
+        ∙ sym (drop_entered (take n xs) q h entered)
+
+    pub remove-behind : drop m ys ≡ dropped (take n xs) q ++ drop n xs
+    remove-behind =
+        ap (λ k. drop k ys) fewer ∙ moved.behind
+        ∙ ap₂ (λ out k. out ++ drop k xs)
+        (sym (first_of_front xs n i within) ∙ ap (λ k. take 1 (drop k (take n xs))) sought.0
+        ∙ sym (dropped_entered (take n xs) q h entered))
+        (omega (arith, within))
+
+-- it is not, and would come at i
+module _ (xs : List Slot) (n q i : ℕ) (h : rises (take n xs) ≡ true) (sought : Sought (take n xs) q (Err i)) where
+  pub left-held : take n xs ≡ drop_slots (take n xs) q
+  left-held = sym (drop_none (take n xs) q sought.2)
+
+  pub left-behind : drop n xs ≡ dropped (take n xs) q ++ drop n xs
+  left-behind = sym (ap (λ out. out ++ drop n xs) (dropped_none (take n xs) q sought.2))
+
+module _ (xs : List Slot) (n i : ℕ) (s : Slot) (h : rises (take n xs) ≡ true) (lt : n < length xs) (sought : Sought (take n xs) (key s) (Err i))
+    (ys : List Slot) (m : ℕ) (b : Bool) (answer : b ≡ (leb i n && ltb n (length xs))) (len : m ≡ cond b (n + 1) n)
+    (slots : MatchBool b (Inserts xs ys n i s) (ys ≡ xs)) where
+  before_end : i ≤ n
+  before_end = omega (arith, sought.1, length-take n xs)
+
+  fits : b ≡ true
+  fits = answer ∙ and_from (leb i n) (ltb n (length xs)) (le-leb i n before_end) (lt-ltb n (length xs) lt)
+
+  more : m ≡ n + 1
+  more = len ∙ ap (λ t. cond t (n + 1) n) fits
+
+  inserted : Inserts xs ys n i s
+  inserted = subst (λ t. MatchBool t (Inserts xs ys n i s) (ys ≡ xs)) fits slots
+
+  pub insert-held : take m ys ≡ put (take n xs) s
+  insert-held =
+      ap (λ k. take k ys) more ∙ inserted.held
+      ∙ ap (λ t. t ++ (s ∷ drop i (take n xs))) (sym (take-take i n xs before_end))
+      ∙ ap (λ k. take k (take n xs) ++ (s ∷ drop k (take n xs))) sought.0
+      ∙ sym (put_new (take n xs) s h (ap is_some sought.2))
+
+  pub insert-len : m ≡ length (put (take n xs) s)
+  insert-len =
+      more ∙ ap (λ k. k + 1) (sym (length-take-le n xs (omega arith)))
+      ∙ sym (put_count (take n xs) s h ∙ cond-false _ _ _ (ap is_some sought.2))

@@ -1,44 +1,71 @@
--- A table after a change of its slots.
-use Rattle.std.proofs.Common.{◌≡◌, ℕ, ◌-◌, ◌≤◌, Bool, true, false, cond, eqb, List, [], ◌∷◌, ◌++◌, length, take, set, Some, None, sym, refl, ap, ◌∙◌, subst, arith}
+-- A table as it is first, and after a change of its list.
+use Rattle.std.proofs.Common.{◌≡◌, ℕ, ◌≤◌, Bool, true, false, cond, not, ◌&&◌, eqb, List, [], ◌∷◌, length, take, set, is_some, is_ok, Ok, Err, Result, sym, refl, ap, ◌∙◌, ap₂, subst, arith, length-set}
 use Rattle.std.proofs.lemmas.Bool.{cond-false}
+use Rattle.std.proofs.lemmas.List.{length-take, length-take-le}
+use Rattle.paths.specs.declared.fault.Cause.{Cause}
+use Rattle.paths.specs.declared.fault.Cause.TheVariants.{Full}
 use Rattle.paths.specs.declared.path.Path.{Path}
 use Rattle.paths.specs.declared.stamp.Panel.{Panel}
-use Rattle.stores.specs.Changes.{drops}
-use Rattle.stores.specs.Making.{blank}
-use Rattle.stores.specs.Meaning.{Model, Lawful}
-use Rattle.stores.specs.Slots.{dropped}
-use Rattle.stores.specs.Tables.{table_model, TableSound, spare, spare_after}
+use Rattle.stores.specs.Making.{root_slot, blank}
+use Rattle.stores.specs.Meaning.{Model, Lawful, put_model, drop_model, stored}
+use Rattle.stores.specs.Slots.{key, lookup, put, drop as drop_slots}
+use Rattle.stores.specs.TableSound.{TableSound, model_of}
+use Rattle.stores.specs.declared.entry.Entry.{Entry}
 use Rattle.stores.specs.declared.entry.Slot.{Slot}
-use Rattle.stores.specs.declared.table.Table.{Table}
+use Rattle.stores.proofs.Kept.{lawful-put, lawful-drop}
 
--- a table that means a lawful model and has room is sound
+-- what means a lawful model, with room for all that it may hold, is sound
 pub sound_as :
-    (t : Table) (m : Model) → table_model t ≡ m → Lawful m → t.len ≤ t.capacity → t.capacity ≤ length t.slots.now
-    → TableSound t
-sound_as t m is law filled room = record { lawful = subst Lawful (sym is) law; filled = filled; room = room }
+    (number : Panel) (clock capacity len : ℕ) (places : List Slot) (m : Model)
+    → model_of number clock capacity (take len places) ≡ m → Lawful m → len ≤ length places → capacity ≤ length places
+    → TableSound number clock capacity len places
+sound_as number clock capacity len places m is law within room =
+    let lawful : Lawful (model_of number clock capacity (take len places)) = subst Lawful (sym is) law in
+    record { lawful = lawful; filled = omega (arith, lawful.fits, length-take-le len places within); room = room }
 
--- what the count after a drop tells
-pub gone : (b : Bool) (n k : ℕ) → Some k ≡ cond b (Some (n - 1)) None → (b ≡ true) × (k ≡ n - 1)
-gone true n k e = (refl, grind arith)
-gone false n k e = grind arith
+-- how a put ends
+put_ends :
+    {X : Type 0} (full : Bool) (x y : X) (r : Result (Unit {0}) Cause) → r ≡ cond full (Err Full) (Ok tt)
+    → cond (is_ok r) x y ≡ cond full y x
+put_ends true x y r e = ap (λ t. cond (is_ok t) x y) e
+put_ends false x y r e = ap (λ t. cond (is_ok t) x y) e
 
-pub not_gone : (b : Bool) (n : ℕ) → None ≡ cond b (Some (n - 1)) None → b ≡ false
-not_gone true n e = grind arith
-not_gone false n e = refl
+cond_length :
+    (b : Bool) (fs gs : List Slot) {k : ℕ} → length gs ≡ k → length (cond b fs gs) ≡ cond b (length fs) k
+cond_length true fs gs e = refl
+cond_length false fs gs e = e
 
--- what stands behind the entries after a drop at a path that is not the root
-pub behind-dropped :
-    (t : Table) (p : Path) {xs : List Slot} → eqb p.number 0 ≡ false
-    → xs ≡ dropped (take t.len t.slots.now) p.number ++ spare t → xs ≡ spare_after (drops p) t t
-behind-dropped t p other is = is ∙ sym (ap (λ out. out ++ spare t) (cond-false _ _ _ other))
+module _ {number : Panel} {clock capacity len : ℕ} {places : List Slot} (sound : TableSound number clock capacity len places)
+    (n : ℕ) (after : List Slot) (room : length after ≡ length places) where
+  size : length (take len places) ≡ len
+  size = length-take-le len places (omega (arith, sound.filled, sound.room))
 
--- what the count after a put tells
-pub made-room : (b : Bool) (n k : ℕ) → Some k ≡ cond b None (Some n) → (b ≡ false) × (k ≡ n)
-made-room true n k e = grind arith
-made-room false n k e = (refl, grind arith)
+  pub put-sound :
+      (p : Path) (e : Entry) (s : Slot) (r : Result (Unit {0}) Cause) → s ≡ record { path = p; entry = stored p.number e }
+      → r ≡ cond (not (is_some (lookup (take len places) (key s))) && eqb len capacity) (Err Full) (Ok tt)
+      → n ≡ cond (is_ok r) (length (put (take len places) s)) len
+      → take n after ≡ cond (is_ok r) (put (take len places) s) (take len places) → TableSound number clock capacity n after
+  put-sound p e s r is answer count held =
+      let es : List Slot = take len places in
+      let m : Model = model_of number clock capacity es in
+      let held_in_all : take n after ≡ (put_model m p e).entries =
+      held ∙ put_ends _ (put es s) es r answer
+      ∙ ap₂ (λ (t : Slot) k. cond (not (is_some (lookup es (key t))) && eqb k capacity) es (put es t)) is (sym size) in
+      let counted : length (take n after) ≡ n =
+      ap length held ∙ cond_length (is_ok r) (put es s) es size ∙ sym count in
+      sound_as number clock capacity n after (put_model m p e) (ap (model_of number clock capacity) held_in_all)
+      (lawful-put m p e sound.lawful) (omega (arith, counted, length-take n after)) (omega (arith, sound.room, room))
 
--- a blank store is lawful
-pub lawful-blank :
+  pub drop-sound :
+      (p : Path) → eqb p.number 0 ≡ false → take n after ≡ drop_slots (take len places) p.number → n ≤ len
+      → TableSound number clock capacity n after
+  drop-sound p other held fewer =
+      let m : Model = model_of number clock capacity (take len places) in
+      sound_as number clock capacity n after (drop_model m p.number) (ap (model_of number clock capacity) (held ∙ sym (cond-false _ _ _ other)))
+      (lawful-drop m p.number sound.lawful) (omega (arith, room, sound.filled, sound.room, fewer)) (omega (arith, sound.room, room))
+
+-- the root alone means a blank store, which is lawful
+lawful-blank :
     (number : Panel) (capacity : ℕ) → 1 ≤ capacity → capacity ≤ 1000 → Lawful (blank number capacity)
 lawful-blank number capacity some small =
     record {
@@ -52,7 +79,16 @@ lawful-blank number capacity some small =
       fits = some;
     }
 
--- the first slot alone
-pub first_only : (xs : List Slot) (s : Slot) → 1 ≤ length xs → take 1 (set xs 0 s) ≡ s ∷ []
-first_only [] s some = absurd (omega arith)
-first_only (x ∷ xs) s some = refl
+module _ (number : Panel) (capacity : ℕ) (xs : List Slot) (s : Slot) (is : s ≡ root_slot) (some : 1 ≤ length xs) where
+  pub blank-model : model_of number 0 capacity (take 1 (set xs 0 s)) ≡ blank number capacity
+  blank-model = ap (model_of number 0 capacity) (first xs some ∙ ap (λ t. t ∷ []) is)
+    where
+      first : (xs : List Slot) → 1 ≤ length xs → take 1 (set xs 0 s) ≡ s ∷ []
+      first [] some = absurd (omega arith)
+      first (x ∷ xs) some = refl
+
+  pub blank-sound : 1 ≤ capacity → capacity ≤ 1000 → capacity ≤ length xs → TableSound number 0 capacity 1 (set xs 0 s)
+  blank-sound positive small room =
+      let size : length (set xs 0 s) ≡ length xs = length-set xs 0 s in
+      sound_as number 0 capacity 1 (set xs 0 s) (blank number capacity) blank-model (lawful-blank number capacity positive small)
+      (omega arith) (omega arith)

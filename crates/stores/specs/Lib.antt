@@ -5,4 +5,5 @@ pub mod Making
 pub mod Meaning
 pub mod Slots
 pub mod StoreLaws
+pub mod TableSound
 pub mod Tables

@@ -23,8 +23,5 @@ impl From<Located> for Fault {
 pub fn at_site<T>(answer: Result<T, StoreFault>, site: Site) -> Result<T, Located>
     ensures { result ≡ at_site site answer }
 {
-    match answer {
-        Ok(value) => Ok(value),
-        Err(fault) => Err(Located { site, fault }),
-    }
+    answer.map_err(|fault| Located { site, fault })
 }

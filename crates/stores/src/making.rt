@@ -3,10 +3,11 @@ ghost use Rattle.std.specs.Prelude.{◌≡◌, ◌≤◌, length, slice_set};
 ghost use Rattle.paths.specs.Parts.{MadeOf};
 ghost use Rattle.paths.specs.declared.fault.Fault.TheVariants.{BadStore};
 ghost use Rattle.stores.specs.Making.{may_make, root_slot, blank};
-ghost use Rattle.stores.specs.Tables.{table_model, TableSound};
+ghost use Rattle.stores.specs.Tables.{table_model};
 
 use crate::entry::{Entry, Slot};
 use crate::table::Table;
+use lists::FrontList;
 use paths::fault::Fault;
 use paths::path::Path;
 use paths::stamp::Panel;
@@ -21,12 +22,10 @@ pub fn check_making(
 ) -> Result<Panel, Fault>
     ensures { MadeOf (λ p. p.number) number (may_make number capacity needed memory) BadStore result }
 {
-    if number < 1 || number > 8 || capacity < 1 || capacity > 1000 || needed > memory {
-        return Err(Fault::BadStore);
+    match Panel::try_from(number) {
+        Ok(panel) if (1..=1000).contains(&capacity) && needed <= memory => Ok(panel),
+        _ => Err(Fault::BadStore),
     }
-    Ok(Panel {
-        number: number as u8,
-    })
 }
 
 // The slot of the root as it is first.
@@ -34,7 +33,7 @@ pub fn blank_root() -> Slot
     ensures { result ≡ root_slot }
 {
     Slot {
-        path: Path { number: 0 },
+        path: Path::root(),
         entry: Entry {
             vector: Vector {
                 places: [0; Panel::COUNT],
@@ -44,29 +43,20 @@ pub fn blank_root() -> Slot
     }
 }
 
-fn write_root(slots: &mut [Slot])
-    requires { 1 ≤ length slots.old }
-    ensures { slots.new ≡ slice_set slots.old 0 root_slot }
-{
-    slots[0] = blank_root();
-}
-
 impl<'a> Table<'a> {
     // A blank table; later places of the list stay as they are.
     pub fn make(number: Panel, capacity: usize, slots: &'a mut [Slot]) -> Table<'a>
         requires { (1 ≤ capacity) × ((capacity ≤ 1000) × (capacity ≤ length slots.old)) }
         ensures model { table_model result ≡ blank number capacity }
-        ensures sound { TableSound result }
-        ensures slots { result.slots.now ≡ slice_set slots.old 0 root_slot }
-        ensures same { result.slots.ghost_name ≡ slots.entry.ghost_name }
+        ensures slots { result.list.slots.now ≡ slice_set slots.old 0 root_slot }
+        ensures same { result.list.slots.ghost_name ≡ slots.entry.ghost_name }
     {
-        write_root(slots);
+        slots[0] = blank_root();
         Table {
             number,
             clock: 0,
             capacity,
-            slots,
-            len: 1,
+            list: FrontList { slots, len: 1 },
         }
     }
 }

@@ -1,47 +1,57 @@
-// Changes of the slots at the front of a slice: the first len are filled, in path order.
-ghost use Rattle.std.specs.Prelude.{◌≡◌, ◌-◌, ◌≤◌, true, not, ◌&&◌, ◌++◌, length, take, drop, is_some, if◌then◌else◌, Some, None, ◌==◌};
-ghost use Rattle.std.specs.Option.{unwrap_or};
+// Changes of a list whose filled places are slots in path order.
+ghost use Rattle.std.specs.Prelude.{◌≡◌, ◌-◌, ◌≤◌, true, not, ◌&&◌, ◌++◌, length, take, drop, is_some, is_ok, if◌then◌else◌, Ok, Err, ◌==◌};
+ghost use Rattle.paths.specs.declared.fault.Cause.TheVariants.{Full};
 ghost use Rattle.stores.specs.Slots.{key, lookup, put as put_slots, drop as drop_slots, dropped, rises};
 
 use crate::entry::Slot;
-use crate::search::seek;
-use lists::{insert_slot, remove_slot, set_slot};
+use crate::sorted::Sorted;
+use lists::FrontList;
+use paths::fault::Cause;
 use paths::path::Path;
 
-// Puts a slot at its place, unless it is new and there are `most` already; the count after it.
-pub fn put_slot(slots: &mut [Slot], len: usize, most: usize, slot: Slot) -> Option<usize>
-    requires { (rises (take len slots.old) ≡ true) × ((len ≤ most) × (most ≤ length slots.old)) }
-    ensures answer { result ≡ (if not (is_some (lookup (take len slots.old) (key slot))) && len == most then None else Some (length (put_slots (take len slots.old) slot))) }
-    ensures held { take (unwrap_or result len) slots.new ≡ (if is_some result then put_slots (take len slots.old) slot else take len slots.old) }
-    ensures behind { drop (unwrap_or result len) slots.new ≡ drop (unwrap_or result len) slots.old }
+// Puts a slot at its place, unless it is new and there are `most` already.
+pub fn put_slot(list: &mut FrontList<'_, Slot>, most: usize, slot: Slot) -> Result<(), Cause>
+    requires { (rises (take list.old.len list.old.slots.now) ≡ true) × ((list.old.len ≤ most) × (most ≤ length list.old.slots.now)) }
+    ensures answer { result ≡ (if not (is_some (lookup (take list.old.len list.old.slots.now) (key slot))) && list.old.len == most then Err Full else Ok tt) }
+    ensures len { list.new.len ≡ (if is_ok result then length (put_slots (take list.old.len list.old.slots.now) slot) else list.old.len) }
+    ensures held { take list.new.len list.new.slots.now ≡ (if is_ok result then put_slots (take list.old.len list.old.slots.now) slot else take list.old.len list.old.slots.now) }
+    ensures behind { drop list.new.len list.new.slots.now ≡ drop list.new.len list.old.slots.now }
+    ensures room { length list.new.slots.now ≡ length list.old.slots.now }
+    ensures same { list.new.slots.ghost_name ≡ list.old.slots.ghost_name }
 {
-    match seek(&slots[0..len], slot.path) {
+    let sorted = Sorted {
+        slots: list.filled(),
+    };
+    match sorted.seek(slot.path) {
         Ok(i) => {
-            set_slot(slots, i, slot);
-            Some(len)
+            list.set(i, slot);
+            Ok(())
         }
         Err(i) => {
-            if len == most {
-                return None;
+            if list.len == most {
+                return Err(Cause::Full);
             }
-            insert_slot(slots, len, i, slot);
-            Some(len + 1)
+            list.insert(i, slot);
+            Ok(())
         }
     }
 }
 
-// Takes the slot of a path out, which comes behind those left; the count after it, if there was one.
-pub fn drop_slot(slots: &mut [Slot], len: usize, path: Path) -> Option<usize>
-    requires { (rises (take len slots.old) ≡ true) × (len ≤ length slots.old) }
-    ensures answer { result ≡ (if is_some (lookup (take len slots.old) path.number) then Some (len - 1) else None) }
-    ensures held { take (unwrap_or result len) slots.new ≡ drop_slots (take len slots.old) path.number }
-    ensures behind { drop (unwrap_or result len) slots.new ≡ dropped (take len slots.old) path.number ++ drop len slots.old }
+// Takes the slot of a path out, which comes behind those left; tells whether there was one.
+pub fn drop_slot(list: &mut FrontList<'_, Slot>, path: Path) -> bool
+    requires { (rises (take list.old.len list.old.slots.now) ≡ true) × (list.old.len ≤ length list.old.slots.now) }
+    ensures answer { result ≡ is_some (lookup (take list.old.len list.old.slots.now) path.number) }
+    ensures len { list.new.len ≡ (if result then list.old.len - 1 else list.old.len) }
+    ensures held { take list.new.len list.new.slots.now ≡ drop_slots (take list.old.len list.old.slots.now) path.number }
+    ensures behind { drop list.new.len list.new.slots.now ≡ dropped (take list.old.len list.old.slots.now) path.number ++ drop list.old.len list.old.slots.now }
+    ensures room { length list.new.slots.now ≡ length list.old.slots.now }
+    ensures same { list.new.slots.ghost_name ≡ list.old.slots.ghost_name }
 {
-    match seek(&slots[0..len], path) {
-        Ok(i) => {
-            remove_slot(slots, len - 1, i);
-            Some(len - 1)
-        }
-        Err(_) => None,
+    let sorted = Sorted {
+        slots: list.filled(),
+    };
+    match sorted.seek(path) {
+        Ok(i) => list.remove(i),
+        Err(_) => false,
     }
 }

@@ -1,45 +1,46 @@
 // What is known at a path and below it, over slots in path order.
 ghost use Rattle.std.specs.Prelude.{◌≡◌, true, is_some};
 ghost use Rattle.stores.specs.Meaning.{nearest, least_at, greatest_at};
-ghost use Rattle.stores.specs.Slots.{lookup, rises};
+ghost use Rattle.stores.specs.Slots.{lookup};
 
-use crate::entry::Slot;
-use crate::search::{find_slot, lower_bound};
+use crate::sorted::Sorted;
 use paths::path::Path;
 use paths::vector::{Bounds, Vector};
 
-// The vector, as stored, of the nearest entered path at or above the path.
-pub fn nearest_vector(slots: &[Slot], path: Path) -> Vector
-    requires ordered { rises slots.now ≡ true }
-    requires rooted { is_some (lookup slots.now 0) ≡ true }
-    ensures { result.places ≡ nearest slots.now path.number }
-{
-    match find_slot(slots, path) {
-        Some(entry) => entry.vector,
-        None => match path.parent() {
-            Some(above) => nearest_vector(slots, above),
-            None => unreachable(),
-        },
+impl<'a> Sorted<'a> {
+    // The vector, as stored, of the nearest entered path at or above the path.
+    pub fn nearest_vector(self, path: Path) -> Vector
+        requires rooted { is_some (lookup self.slots.now 0) ≡ true }
+        ensures { result.places ≡ nearest self.entry.slots.now path.number }
+    {
+        match self.find(path) {
+            Some(entry) => entry.vector,
+            None => match path.parent() {
+                Some(above) => self.nearest_vector(above),
+                None => unreachable(),
+            },
+        }
     }
-}
 
-// The least and the greatest over the vectors of the entered paths that the path covers and of the nearest entered one
-// at or above it. The covered ones stand in one run, from the path's place on.
-pub fn bounds_of(slots: &[Slot], path: Path) -> Bounds
-    requires ordered { rises slots.now ≡ true }
-    requires rooted { is_some (lookup slots.now 0) ≡ true }
-    ensures least { result.least.places ≡ least_at slots.now path.number }
-    ensures greatest { result.greatest.places ≡ greatest_at slots.now path.number }
-{
-    let nearest = nearest_vector(slots, path);
-    let mut bounds = Bounds {
-        least: nearest,
-        greatest: nearest,
-    };
-    let mut i = lower_bound(slots, path);
-    while i < slots.len() && path.covers(slots[i].path) {
-        bounds = bounds.and(slots[i].entry.vector);
-        i += 1;
+    // The least and the greatest over the vectors of the entered paths that the path covers and of the nearest entered
+    // one at or above it. The covered ones stand in one run, from the path's place on.
+    pub fn bounds(self, path: Path) -> Bounds
+        requires rooted { is_some (lookup self.slots.now 0) ≡ true }
+        ensures least { result.least.places ≡ least_at self.entry.slots.now path.number }
+        ensures greatest { result.greatest.places ≡ greatest_at self.entry.slots.now path.number }
+    {
+        let nearest = self.nearest_vector(path);
+        let mut bounds = Bounds {
+            least: nearest,
+            greatest: nearest,
+        };
+        let first = self.lower_bound(path);
+        for slot in &self.slots[first..] {
+            if !path.covers(slot.path) {
+                break;
+            }
+            bounds = bounds.and(slot.entry.vector);
+        }
+        bounds
     }
-    bounds
 }

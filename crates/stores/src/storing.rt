@@ -14,8 +14,8 @@ impl Entry {
             self
         } else {
             Entry {
-                vector: self.vector,
                 grade: None,
+                ..self
             }
         }
     }

@@ -21,41 +21,30 @@ fn stored_slot(path: Path, entry: Entry) -> Slot
     }
 }
 
+// A table's refusal: it stands at the bottom.
+fn refused(cause: Cause) -> StoreFault
+    ensures { result ≡ record { cause = cause; height = 0 } }
+{
+    StoreFault { cause, height: 0 }
+}
+
 impl<'a> Store for Table<'a> {
     ghost keeps = { TableKeeps };
 
     fn put(&mut self, path: Path, entry: Entry) -> Result<(), StoreFault> {
-        let len = self.len;
-        let most = self.capacity;
-        let slot = stored_slot(path, entry);
-        let Some(len) = put_slot(self.slots, len, most, slot) else {
-            return Err(StoreFault {
-                cause: Cause::Full,
-                height: 0,
-            });
-        };
-        self.len = len;
-        Ok(())
+        put_slot(&mut self.list, self.capacity, stored_slot(path, entry)).map_err(refused)
     }
 
     fn drop(&mut self, path: Path) -> bool {
-        if path.number == 0 {
+        if path == Path::root() {
             return false;
         }
-        let len = self.len;
-        let Some(len) = drop_slot(self.slots, len, path) else {
-            return false;
-        };
-        self.len = len;
-        true
+        drop_slot(&mut self.list, path)
     }
 
     fn tick(&mut self) -> Result<(), StoreFault> {
         if self.clock == Time::LAST {
-            return Err(StoreFault {
-                cause: Cause::LastTime,
-                height: 0,
-            });
+            return Err(refused(Cause::LastTime));
         }
         self.clock += 1;
         Ok(())

@@ -1,21 +1,29 @@
 // What can be asked of a table.
-ghost use Rattle.stores.specs.Tables.{table_model, TableSound};
+ghost use Rattle.std.specs.Prelude.{◌≡◌};
+ghost use Rattle.stores.specs.Tables.{entries, table_model};
 
 use crate::entry::Entry;
-use crate::search::{find_slot, next_slot};
-use crate::spans::bounds_of;
+use crate::sorted::Sorted;
 use crate::table::Table;
 use crate::traits::ReadHalf;
 use paths::path::Path;
 use paths::stamp::Panel;
 use paths::vector::Bounds;
 
+impl<'a> Table<'a> {
+    fn sorted(&self) -> Sorted<'_>
+        ensures { result.slots.now ≡ entries self.now }
+    {
+        Sorted {
+            slots: self.list.filled(),
+        }
+    }
+}
+
 impl<'a> ReadHalf for Table<'a> {
     ghost model = { table_model };
 
-    ghost sound = { TableSound };
-
-    ghost laws = { λ t s. s.lawful };
+    ghost laws = { λ t. t.sound.lawful };
 
     fn number(&self) -> Panel {
         self.number
@@ -34,21 +42,18 @@ impl<'a> ReadHalf for Table<'a> {
     }
 
     fn count(&self) -> usize {
-        self.len
+        self.list.len
     }
 
     fn find(&self, path: Path) -> Option<Entry> {
-        let len = self.len;
-        find_slot(&self.slots[0..len], path)
+        self.sorted().find(path)
     }
 
     fn next(&self, path: Path) -> Option<Path> {
-        let len = self.len;
-        next_slot(&self.slots[0..len], path)
+        self.sorted().next(path)
     }
 
     fn bounds(&self, path: Path) -> Bounds {
-        let len = self.len;
-        bounds_of(&self.slots[0..len], path)
+        self.sorted().bounds(path)
     }
 }

@@ -1,5 +1,4 @@
 // A table taken through a day of changes and questions; the answers are those of an independent model.
-ghost use Rattle.stores.specs.Tables.{TableSound};
 
 use crate::entry::Entry;
 use crate::making::{blank_root, check_making};
@@ -25,10 +24,7 @@ enum Op {
 }
 
 // 9 where a path is not found or a put is refused, 0 where there is no next.
-fn answer(table: &mut Table<'_>, op: Op) -> u32
-    requires { TableSound table.old }
-    ensures { TableSound table.new }
-{
+fn answer(table: &mut Table<'_>, op: Op) -> u32 {
     match op {
         Op::Put(number, a, b, c, d) => put(
             table,
@@ -73,10 +69,7 @@ fn answer(table: &mut Table<'_>, op: Op) -> u32
     }
 }
 
-fn put(table: &mut Table<'_>, number: u32, vector: Vector) -> u32
-    requires { TableSound table.old }
-    ensures { TableSound table.new }
-{
+fn put(table: &mut Table<'_>, number: u32, vector: Vector) -> u32 {
     let Ok(path) = Path::try_from(number) else {
         return 9;
     };
@@ -92,9 +85,7 @@ fn put(table: &mut Table<'_>, number: u32, vector: Vector) -> u32
     }
 }
 
-fn found(table: &Table<'_>, number: u32) -> u32
-    requires { TableSound table.now }
-{
+fn found(table: &Table<'_>, number: u32) -> u32 {
     let Ok(path) = Path::try_from(number) else {
         return 9;
     };

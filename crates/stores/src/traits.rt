@@ -15,48 +15,38 @@ pub trait ReadHalf {
     // what the store means
     ghost model: { Self → Model };
 
-    // the invariant of a make: every maker gives it and every change keeps it
-    ghost sound: { Self → Type 0 };
-
-    ghost laws: { (x : Self) → sound x → Lawful (model x) };
-
     fn number(&self) -> Panel
-        requires { sound self.now }
         ensures { result ≡ (model self.now).number };
 
     fn clock(&self) -> u32
-        requires { sound self.now }
         ensures { result ≡ (model self.now).clock };
 
     fn capacity(&self) -> usize
-        requires { sound self.now }
         ensures { result ≡ (model self.now).capacity };
 
     // Layers above the bottom; 255 stands for 255 or more.
     fn height(&self) -> u8
-        requires { sound self.now }
         ensures { result ≡ (model self.now).height };
 
     // How many paths are entered.
     fn count(&self) -> usize
-        requires { sound self.now }
         ensures { result ≡ length (model self.now).entries };
 
     fn find(&self, path: Path) -> Option<Entry>
-        requires { sound self.now }
         ensures { result ≡ lookup (model self.now).entries path.number };
 
     // The least entered path after this one.
     fn next(&self, path: Path) -> Option<Path>
-        requires { sound self.now }
         ensures { result ≡ next_after (model self.now).entries path.number };
 
     // The least and the greatest over the vectors, as stored, of the entered paths that the path covers and of the
     // nearest entered one at or above it.
     fn bounds(&self, path: Path) -> Bounds
-        requires { sound self.now }
         ensures least { result.least.places ≡ least_at (model self.now).entries path.number }
         ensures greatest { result.greatest.places ≡ greatest_at (model self.now).entries path.number };
+
+    // what every store keeps
+    ghost laws: { (x : Self) → Lawful (model x) };
 }
 
 // A store that can be changed. A refused change changes nothing.
@@ -67,25 +57,19 @@ pub trait Store: ReadHalf {
 
     // Sets the entry at a path, at a folder without a grade.
     fn put(&mut self, path: Path, entry: Entry) -> Result<(), StoreFault>
-        requires { Self.ReadHalf.sound self.old }
         ensures answer { result ≡ put_answer (Self.ReadHalf.model self.old) path.number }
         ensures after { Self.ReadHalf.model self.new ≡ put_model (Self.ReadHalf.model self.old) path entry }
-        ensures sound { Self.ReadHalf.sound self.new }
         ensures kept { keeps (puts path entry) self.old self.new };
 
     // Removes an entry, never the root's, and tells whether one went.
     fn drop(&mut self, path: Path) -> bool
-        requires { Self.ReadHalf.sound self.old }
         ensures answer { result ≡ drop_answer (Self.ReadHalf.model self.old) path.number }
         ensures after { Self.ReadHalf.model self.new ≡ drop_model (Self.ReadHalf.model self.old) path.number }
-        ensures sound { Self.ReadHalf.sound self.new }
         ensures kept { keeps (drops path) self.old self.new };
 
     // Adds one to the clock.
     fn tick(&mut self) -> Result<(), StoreFault>
-        requires { Self.ReadHalf.sound self.old }
         ensures answer { result ≡ tick_answer (Self.ReadHalf.model self.old) }
         ensures after { Self.ReadHalf.model self.new ≡ tick_model (Self.ReadHalf.model self.old) }
-        ensures sound { Self.ReadHalf.sound self.new }
         ensures kept { keeps ticks self.old self.new };
 }

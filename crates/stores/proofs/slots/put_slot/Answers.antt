@@ -1,16 +1,32 @@
-use Rattle.std.proofs.Common.{arith}
-use Rattle.stores.proofs.Slices.{put-found, put_missed}
+use Rattle.std.proofs.Common.{ap, ◌∙◌, take, arith}
+use Rattle.stores.proofs.Slices.{set-held, set-len, insert-held, insert-len}
 use Rattle.stores.proofs.slots.put_slot.Goals as goal
 
-pub returns-in-Ok : goal.returns-in-Ok
-returns-in-Ok c =
-    let done =
-    put-found c.args.most c.requires.0 (omega arith) c.in-Ok.ensures.sought c.set_slot.ensures in
-    record { answer = done.answer; held = done.held; behind = done.behind }
+pub returns-in-Ok-clause-held : goal.returns-in-Ok-clause-held
+returns-in-Ok-clause-held c =
+    let list = c.args.list.now in
+    let sought = rw c.filled.ensures at c.in-Ok.ensures.sought in
+    ap (λ n. take n c.set.new.self.slots.now) c.set.ensures.len
+    ∙ set-held list.slots.now list.len c.in-Ok.i c.args.slot c.requires.0 (omega arith) sought _ c.set.ensures.slots
 
-pub returns-else-len-most : goal.returns-else-len-most
-returns-else-len-most c =
-    let done =
-    put_missed c.args.most c.requires.0 (omega arith) c.in-Err.ensures.sought c.if-len-most.false
-    c.insert_slot.ensures in
-    record { answer = done.answer; held = done.held; behind = done.behind }
+pub returns-in-Ok-clause-len : goal.returns-in-Ok-clause-len
+returns-in-Ok-clause-len c =
+    let list = c.args.list.now in
+    let sought = rw c.filled.ensures at c.in-Ok.ensures.sought in
+    c.set.ensures.len ∙ set-len list.slots.now list.len c.in-Ok.i c.args.slot c.requires.0 (omega arith) sought
+
+pub returns-else-list-most-clause-held : goal.returns-else-list-most-clause-held
+returns-else-list-most-clause-held c =
+    let list = c.args.list.now in
+    let sought = rw c.filled.ensures at c.in-Err.ensures.sought in
+    let did = c.insert.ensures in
+    insert-held list.slots.now list.len c.in-Err.i c.args.slot c.requires.0 (omega arith) sought _ _ _ did.answer did.len
+    did.slots
+
+pub returns-else-list-most-clause-len : goal.returns-else-list-most-clause-len
+returns-else-list-most-clause-len c =
+    let list = c.args.list.now in
+    let sought = rw c.filled.ensures at c.in-Err.ensures.sought in
+    let did = c.insert.ensures in
+    insert-len list.slots.now list.len c.in-Err.i c.args.slot c.requires.0 (omega arith) sought c.insert.new.self.slots.now _ _ did.answer did.len
+    did.slots

@@ -1,20 +1,15 @@
-use Rattle.std.proofs.Common.{take, ap, ◌∙◌, arith, rules}
-use Rattle.stores.proofs.TableLaws.{sound_as, lawful-blank, first_only}
-use Rattle.stores.specs.Making.{blank, root_slot}
-use Rattle.stores.specs.Meaning.{with_entries}
+use Rattle.std.proofs.Common.{arith}
+use Rattle.stores.proofs.TableLaws.{blank-model, blank-sound}
 use Rattle.stores.proofs.table.Table.make.Goals as goal
 
-pub returns : goal.returns
-returns c =
-    let model =
-    ap (with_entries (blank c.args.number c.args.capacity))
-    (ap (take 1) c.write_root.ensures ∙ first_only c.args.slots.now root_slot (omega arith)) in
+pub returns-clause-model : goal.returns-clause-model
+returns-clause-model c =
+    blank-model c.args.number c.args.capacity c.args.slots.now c.blank_root.result c.blank_root.ensures (omega arith)
+
+pub invariant_of-result : goal.invariant_of-result
+invariant_of-result c =
     record {
-      model = model;
       sound =
-          sound_as _ _ model
-          (lawful-blank c.args.number c.args.capacity (omega arith) (omega arith)) (omega arith)
-          (omega arith);
-      slots = c.write_root.ensures;
-      same = search rules;
+          blank-sound c.args.number c.args.capacity c.args.slots.now c.blank_root.result c.blank_root.ensures (omega arith)
+          (omega arith) (omega arith) (omega arith);
     }
