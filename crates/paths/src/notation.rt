@@ -60,11 +60,9 @@ fn path_number(text: &[u8]) -> Option<u32>
 fn step(text: &[u8]) -> Option<u8>
     ensures { result ≡ read_step text.now }
 {
-    let number = read_number(text)?;
-    if number < 1 || number > 255 {
-        return None;
-    }
-    Some(number as u8)
+    u8::try_from(read_number(text)?)
+        .ok()
+        .filter(|step| *step != 0)
 }
 
 // What a first step of n levels counts: 256 for each level below it.

@@ -107,7 +107,7 @@ impl TryFrom<Knobs<i64>> for Knobs<Knob> {
     ghost try_from_gives = { λ k r. MadeOf knobs_parts k (lawful_knobs k) range_error r };
 
     fn try_from(parts: Knobs<i64>) -> Result<Knobs<Knob>, RangeError> {
-        parts.try_map(|value| Knob::try_from(value))
+        parts.try_map(Knob::try_from)
     }
 }
 
@@ -129,10 +129,7 @@ impl TryFrom<GradeParts> for Grade {
 fn optional_knob(value: Option<i64>) -> Result<Option<Knob>, RangeError>
     ensures { MadeOf (option_map (λ k. k.value)) value (in_range value) range_error result }
 {
-    match value {
-        Some(value) => Ok(Some(Knob::try_from(value)?)),
-        None => Ok(None),
-    }
+    value.map(Knob::try_from).transpose()
 }
 
 impl SettingParts {
@@ -140,10 +137,10 @@ impl SettingParts {
     fn is_empty(self) -> bool
         ensures { result ≡ not (some_set self) }
     {
-        match (self.lift, self.gamma, self.gain, self.contrast) {
-            (None, None, None, None) => true,
-            _ => false,
-        }
+        matches!(
+            (self.lift, self.gamma, self.gain, self.contrast),
+            (None, None, None, None)
+        )
     }
 }
 
@@ -155,9 +152,9 @@ impl Setting {
         if parts.is_empty() {
             return Err(Fault::OutOfRange(site));
         }
-        match parts.try_map(|value| optional_knob(value)) {
-            Ok(knobs) => Ok(Setting { knobs }),
-            Err(RangeError) => Err(Fault::OutOfRange(site)),
-        }
+        let knobs = parts
+            .try_map(optional_knob)
+            .map_err(|_| Fault::OutOfRange(site))?;
+        Ok(Setting { knobs })
     }
 }

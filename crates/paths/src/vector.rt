@@ -54,14 +54,14 @@ impl Vector {
     pub fn greater(self, other: Vector) -> Vector
         ensures { result.places ≡ greater_places self.places other.places }
     {
-        self.zip_with(other, |a, b| greater_place(a, b))
+        self.zip_with(other, greater_place)
     }
 
     // Place by place, the lesser of both.
     pub fn lesser(self, other: Vector) -> Vector
         ensures { result.places ≡ lesser_places self.places other.places }
     {
-        self.zip_with(other, |a, b| a.min(b))
+        self.zip_with(other, u32::min)
     }
 
     // Whether no place passes the same place of the other.
