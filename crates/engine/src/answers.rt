@@ -5,7 +5,7 @@ use paths::path::Path;
 use paths::stamp::{Panel, Stamp};
 
 // Two panels by their numbers, and the path at which one is the source and the other the destination of a call.
-#[derive(Clone, Copy)]
+#[derive(Clone, Copy, PartialEq, Eq)]
 pub struct Meeting {
     pub source: Panel,
     pub destination: Panel,
@@ -27,7 +27,7 @@ pub struct Reported {
 }
 
 // What to do about a conflict: the destination's side, the source's, or a third grade of these knobs.
-#[derive(Clone, Copy)]
+#[derive(Clone, Copy, PartialEq, Eq)]
 pub enum Choice {
     Ours,
     Theirs,

@@ -7,18 +7,11 @@ use paths::grade::Grade;
 use paths::stamp::Stamp;
 use paths::vector::Vector;
 
-// What one panel has at a leaf: its grade, if any, and the vector there.
-#[derive(Clone, Copy)]
+// What one panel has at a leaf: its grade, which may be an option, and the vector there.
+#[derive(Clone, Copy, PartialEq, Eq)]
 pub struct Side<G> {
-    pub grade: Option<G>,
+    pub grade: G,
     pub vector: Vector,
-}
-
-// A grade and the vector that its panel has at the leaf.
-#[derive(Clone, Copy)]
-struct Holding {
-    grade: Grade,
-    vector: Vector,
 }
 
 // Why two sides cannot be joined. A is the source and B the destination.
@@ -60,7 +53,7 @@ impl From<Kind> for u8 {
 }
 
 // What a sync from a onto b does at a leaf; none where both sides are empty.
-pub fn decide(a: Side<Grade>, b: Side<Grade>) -> Option<Outcome>
+pub fn decide(a: Side<Option<Grade>>, b: Side<Option<Grade>>) -> Option<Outcome>
     ensures { result ≡ outcome (option_map version a.grade) a.vector.places (option_map version b.grade) b.vector.places }
 {
     match (a.holding(), b.holding()) {
@@ -71,22 +64,23 @@ pub fn decide(a: Side<Grade>, b: Side<Grade>) -> Option<Outcome>
     }
 }
 
-impl Side<Grade> {
-    fn holding(self) -> Option<Holding>
+impl Side<Option<Grade>> {
+    // The same of a grade that is there.
+    fn holding(self) -> Option<Side<Grade>>
         ensures { result ≡ option_map (λ g. record { grade = g; vector = self.vector }) self.grade }
     {
         let grade = self.grade?;
-        Some(Holding {
+        Some(Side {
             grade,
             vector: self.vector,
         })
     }
 }
 
-impl Holding {
+impl Side<Grade> {
     // Whether this side goes on from the other: it knows the other's stamp and is not known there, and both come from one
     // birth or its birth is new to the other's panel.
-    fn goes_on(self, other: Holding) -> bool
+    fn goes_on(self, other: Side<Grade>) -> bool
         ensures { result ≡ goes_on (version self.grade) self.vector.places (version other.grade) other.vector.places }
     {
         self.vector.knows(other.grade.stamp)
@@ -95,7 +89,7 @@ impl Holding {
     }
 }
 
-fn both(theirs: Holding, ours: Holding) -> Outcome
+fn both(theirs: Side<Grade>, ours: Side<Grade>) -> Outcome
     ensures { result ≡ both_sides (version theirs.grade) theirs.vector.places (version ours.grade) ours.vector.places }
 {
     if theirs.grade.stamp == ours.grade.stamp || ours.goes_on(theirs) {

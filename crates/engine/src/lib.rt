@@ -15,7 +15,7 @@ mod tests {
 
     #[test]
     fn two_empty_sides_have_no_outcome(rt: HostRuntime) {
-        let side: Side<Grade> = Side {
+        let side: Side<Option<Grade>> = Side {
             grade: None,
             vector: Vector { places: [0; 8] },
         };

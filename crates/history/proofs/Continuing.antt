@@ -66,17 +66,19 @@ module _ (has : ℕ → Bool) where
       one_more (Asks work report (Remove k p)) (remove k.number p) (is_ok x) [] before after refl named (x, refl, w, only)
   continues work report (Sync m) before after r named ((x, _, w), only) =
       one_more (Asks work report (Sync m)) (sync m.source.number m.destination.number m.path work report) (is_ok x)
-      (cond (is_ok x) (leaves_of (conflicts_of (before m.source.number) (before m.destination.number) m.path)) []) before after refl named
+      (cond (is_ok x) (leaves_of (conflicts_of (before m.source.number) (before m.destination.number) m.path)) [])
+      before after refl named
       (x, refl, w, only, refl)
   continues work report (Inspect m) before after r named ((Ok t, _, w), each) =
-      two-more (Asks work report (Inspect m)) (open_conflict m.source.number m.destination.number m.path) (leave t) true true before after
-      (inr (t, refl)) named refl (Ok t, refl, w, λ j. refl) each
+      two-more (Asks work report (Inspect m)) (open_conflict m.source.number m.destination.number m.path) (leave t)
+      true true before after (inr (t, refl)) named refl (Ok t, refl, w, λ j. refl) each
   continues work report (Inspect m) before after r named ((Err f, _, w), each) =
-      one_more (Asks work report (Inspect m)) (open_conflict m.source.number m.destination.number m.path) (is_ok {T = Unit {0}} (Err f)) [] before after
-      (inl refl) named (Err f, refl, w, each)
+      one_more (Asks work report (Inspect m)) (open_conflict m.source.number m.destination.number m.path)
+      (is_ok {T = Unit {0}} (Err f)) [] before after (inl refl) named (Err f, refl, w, each)
   continues work report (Resolve m c) before after r named ((x, _, inl (f, w, _, same)), only) =
-      one_more (Asks work report (Resolve m c)) (open_conflict m.source.number m.destination.number m.path) (is_ok {T = Unit {0}} (Err f)) [] before after
-      (inl refl) named (Err f, refl, w, unchanged m.destination.number before after same only)
+      one_more (Asks work report (Resolve m c)) (open_conflict m.source.number m.destination.number m.path)
+      (is_ok {T = Unit {0}} (Err f)) [] before after (inl refl) named
+      (Err f, refl, w, unchanged m.destination.number before after same only)
   continues work report (Resolve m c) before after r named ((x, _, inr (t, w, chosen)), only) =
       two-more (Asks work report (Resolve m c)) (open_conflict m.source.number m.destination.number m.path)
       (choose m.source.number m.destination.number t c) true (is_ok x) before after (inr (t, refl)) named named
@@ -145,7 +147,8 @@ report-room work (Sync m) before after r places ((Ok tally, is, w), only) =
     let (_, _, fits, _) =
     none_of_four (eqb (before m.source.number).number.number (before m.destination.number).number.number)
     (ltb work (before m.destination.number).capacity) (ltb (length places) (length conflicts))
-    (ltb (before m.destination.number).capacity (length (entries_after (before m.source.number) (before m.destination.number) m.path))) _ _ _ _ w.0 in
+    (ltb (before m.destination.number).capacity
+    (length (entries_after (before m.source.number) (before m.destination.number) m.path))) _ _ _ _ w.0 in
     ap (λ x. length (report_left (Sync m) before (is_ok x) places)) is
     ∙ length-append conflicts (drop (length conflicts) places)
     ∙ omega (arith, length-drop (length conflicts) places, ltb-false (length places) (length conflicts) fits)

@@ -55,7 +55,8 @@ Performs work report (Sync m) before r after =
     × Syncs (before m.source.number) (before m.destination.number) m.path work report x (after m.destination.number))
     × OnlyAt m.destination.number before after
 Performs work report (Inspect m) before r after =
-    ((x : Result Conflict Fault) × (r ≡ answered Found x) × Opens (before m.source.number) (before m.destination.number) m.path x)
+    ((x : Result Conflict Fault) × (r ≡ answered Found x)
+    × Opens (before m.source.number) (before m.destination.number) m.path x)
     × ((j : ℕ) → after j ≡ before j)
 Performs work report (Resolve m c) before r after =
     ((x : Result ℕ Fault) × (r ≡ answered Clock x)
@@ -98,7 +99,9 @@ Asks work report (Inspect m) cs =
     ⊎ ((t : Conflict) × (cs ≡ leave t ∷ (open_conflict m.source.number m.destination.number m.path ∷ [])))
 Asks work report (Resolve m c) cs =
     (cs ≡ open_conflict m.source.number m.destination.number m.path ∷ [])
-    ⊎ ((t : Conflict) × (cs ≡ choose m.source.number m.destination.number t c ∷ (open_conflict m.source.number m.destination.number m.path ∷ [])))
+    ⊎ ((t : Conflict)
+    × (cs
+    ≡ choose m.source.number m.destination.number t c ∷ (open_conflict m.source.number m.destination.number m.path ∷ [])))
 
 -- the calls that a list of requests comes to
 abbrev pub AsksAll : (work report : ℕ) → List Request → List Call → Type 0

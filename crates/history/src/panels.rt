@@ -24,6 +24,7 @@ pub trait Panels {
     // the store of each
     ghost stores: { Self → Stores };
 
+    // what a make of panels keeps in its type says so much
     ghost laws: { (x : Self) → (k : ℕ) → has k ≡ true → Lawful (stores x k) };
 
     // The entry of a panel at a path.

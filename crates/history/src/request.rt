@@ -6,7 +6,7 @@ use paths::path::Path;
 use paths::stamp::Panel;
 
 // A call by the numbers of its panels.
-#[derive(Clone, Copy)]
+#[derive(Clone, Copy, PartialEq, Eq)]
 pub enum Request {
     Write(Panel, Path, SettingParts),
     Remove(Panel, Path),

@@ -18,7 +18,7 @@ use Rattle.leaves.specs.declared.answer.Decided.{Decided}
 use Rattle.leaves.specs.declared.answer.Undecided.{Undecided}
 use Rattle.leaves.specs.declared.answer.Undecided.TheVariants.{Unread, Refused}
 
-abbrev pub side_parts : Side Grade → Side GradeParts
+abbrev pub side_parts : Side (Option Grade) → Side (Option GradeParts)
 side_parts s = record { grade = option_map grade_parts s.grade; vector = s.vector }
 
 -- a side with no grade has no stamps that could be out of range
@@ -31,12 +31,12 @@ abbrev pub version_of : GradeParts → Version
 version_of g = record { stamp = g.stamp; birth = g.birth }
 
 -- what the rule decides of two sides
-abbrev pub decided : Side GradeParts → Side GradeParts → Option Outcome
+abbrev pub decided : Side (Option GradeParts) → Side (Option GradeParts) → Option Outcome
 decided a b =
     outcome (option_map version_of a.grade) a.vector.places (option_map version_of b.grade) b.vector.places
 
 -- what is answered of a path and two sides: the path must be a leaf, and the stamps in range
-abbrev pub judged : Path → Side GradeParts → Side GradeParts → Result Decided Undecided
+abbrev pub judged : Path → Side (Option GradeParts) → Side (Option GradeParts) → Result Decided Undecided
 judged p a b =
     cond (depth levels p.number == levels)
     (cond (lawful_side a.grade && lawful_side b.grade) (Ok (record { leaf = p; outcome = decided a b }))

@@ -62,7 +62,7 @@ read_places (suc n) t =
 abbrev pub read_vector : List ℕ → Option Vector
 read_vector t = option_map (λ xs. record { places = xs }) (read_places 8 t)
 
-abbrev pub read_side : List ℕ → List ℕ → Option (Side GradeParts)
+abbrev pub read_side : List ℕ → List ℕ → Option (Side (Option GradeParts))
 read_side g v =
     and_then (read_grade g) (λ grade.
     and_then (read_vector v) (λ vector.
@@ -71,8 +71,8 @@ read_side g v =
 -- a line as it is read, its leaf by the bytes
 pub record LineText : Type 0 where
   pub leaf : List ℕ
-  pub a : Side GradeParts
-  pub b : Side GradeParts
+  pub a : Side (Option GradeParts)
+  pub b : Side (Option GradeParts)
 
 abbrev pub line_text : Line → LineText
 line_text l = record { leaf = l.leaf.now; a = l.a; b = l.b }

@@ -15,14 +15,14 @@ use paths::path::Path;
 use std::fmt;
 
 // What a sync does at a leaf; no outcome where both sides are empty.
-#[derive(Clone, Copy)]
+#[derive(Clone, Copy, PartialEq, Eq)]
 pub struct Decided {
     pub leaf: Path,
     pub outcome: Option<Outcome>,
 }
 
 // Why nothing is decided of a line.
-#[derive(Clone, Copy)]
+#[derive(Clone, Copy, PartialEq, Eq)]
 pub enum Undecided {
     // it has not the form of one
     Unread,
@@ -57,7 +57,7 @@ pub fn answer_line(text: &[u8]) -> Result<Decided, Undecided>
     })
 }
 
-fn side(parts: Side<GradeParts>) -> Result<Side<Grade>, Fault>
+fn side(parts: Side<Option<GradeParts>>) -> Result<Side<Option<Grade>>, Fault>
     ensures { MadeOf side_parts parts (lawful_side parts.grade) (OutOfRange nowhere) result }
 {
     Ok(Side {

@@ -13,8 +13,8 @@ use text::{read_number, split_first};
 #[derive(Clone, Copy)]
 pub struct Line<'a> {
     pub leaf: &'a [u8],
-    pub a: Side<GradeParts>,
-    pub b: Side<GradeParts>,
+    pub a: Side<Option<GradeParts>>,
+    pub b: Side<Option<GradeParts>>,
 }
 
 pub fn read_line(text: &[u8]) -> Option<Line<'_>>
@@ -30,7 +30,7 @@ pub fn read_line(text: &[u8]) -> Option<Line<'_>>
     Some(Line { leaf, a, b })
 }
 
-fn read_side(grade: &[u8], vector: &[u8]) -> Option<Side<GradeParts>>
+fn read_side(grade: &[u8], vector: &[u8]) -> Option<Side<Option<GradeParts>>>
     ensures { result ≡ read_side grade.now vector.now }
 {
     Some(Side {

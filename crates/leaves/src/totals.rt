@@ -7,7 +7,7 @@ use engine::tally::Tally;
 use std::fmt;
 use std::ops::AddAssign;
 
-#[derive(Clone, Copy, Default)]
+#[derive(Clone, Copy, PartialEq, Eq, Default)]
 pub struct Totals {
     // the lines that were decided, empty ones too
     pub leaves: usize,

@@ -1,5 +1,5 @@
 -- Slots in path order, by the place of a path among them.
-use Rattle.std.proofs.Common.{◌≡◌, ℕ, zero, suc, ◌<◌, ◌≤◌, true, false, eqb, List, [], ◌∷◌, ◌++◌, length, get_or, take, drop, set, is_some, sym, refl, ap, ◌∙◌, arith}
+use Rattle.std.proofs.Common.{◌≡◌, ℕ, zero, suc, ◌<◌, true, false, eqb, List, [], ◌∷◌, ◌++◌, length, get_or, take, drop, set, is_some, sym, refl, ap, ◌∙◌, arith}
 use Rattle.std.proofs.lemmas.Bool.{cond_both, cond-true, lt-ltb}
 use Rattle.stores.proofs.Entries.{lookup-before, put_ways}
 use Rattle.stores.specs.Slots.{key, lookup, put, drop as drop_slots, dropped, after, rises, place}
@@ -9,14 +9,6 @@ pub after-at : (q : ℕ) (es : List Slot) (k : ℕ) (d : Slot) → after q es �
 after-at q [] k d h lt = absurd (omega arith)
 after-at q (s ∷ es) zero d h lt = grind arith
 after-at q (s ∷ es) (suc k) d h lt = after-at q es k d (grind arith) (omega arith)
-
-pub place_le : (es : List Slot) (q : ℕ) → place es q ≤ length es
-place_le [] q = omega arith
-place_le (s ∷ es) q = let rest = place_le es q in grind arith
-
-pub entered_within : (es : List Slot) (q : ℕ) → rises es ≡ true → is_some (lookup es q) ≡ true → place es q < length es
-entered_within [] q h found = grind arith
-entered_within (t ∷ es) q h found = grind (arith, entered_within es q)
 
 module _ (t : Slot) (es : List Slot) (q : ℕ) (lt : key t < q) where
   pub place_past : place (t ∷ es) q ≡ suc (place es q)

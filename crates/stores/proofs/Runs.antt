@@ -1,7 +1,10 @@
--- The join of what a path covers, by a scan of the run of its slots.
-use Rattle.std.proofs.Common.{◌≡◌, ℕ, zero, suc, ◌+◌, ◌-◌, ◌<◌, ◌≤◌, Bool, true, false, ltb, List, [], ◌∷◌, length, get_or, take, drop, sym, refl, ap, ap₂, subst, ◌∙◌, arith, length-drop}
-use Rattle.std.proofs.lemmas.List.{length-take, get_or-take, get_or-drop, drop_more, drop_all}
-use Rattle.std.proofs.lemmas.Bool.{and_parts, cond-true, cond-false, cond_both, ltb-true}
+-- The join of what a path covers, by the run of its slots.
+use Rattle.std.proofs.Common.{◌≡◌, ℕ, zero, suc, ◌+◌, ◌-◌, ◌<◌, ◌≤◌, Bool, true, false, cond, ltb, List, [], ◌∷◌, length, get_or, take, drop, sym, refl, ap, ◌∙◌, arith, length-drop}
+use Rattle.std.proofs.lemmas.List.{get_or-drop, take_rest}
+use Rattle.std.proofs.lemmas.Bool.{and_parts, cond-false, cond_both, ltb-true}
+use Rattle.paths.specs.Vectors.{greater, lesser}
+use Rattle.paths.specs.declared.vector.Bounds.{Bounds}
+use Rattle.std.specs.List.{fold, prefix_len}
 use Rattle.paths.specs.Steps.{levels, covers}
 use Rattle.paths.specs.declared.path.Path.{Path}
 use Rattle.paths.proofs.Levels.{none_before, none_after}
@@ -11,7 +14,7 @@ use Rattle.stores.specs.Slots.{key, after, rises, place}
 use Rattle.stores.specs.declared.entry.Slot.{Slot}
 use Rattle.stores.proofs.Order.{after-at}
 
-abbrev covered : Path → Slot → Bool
+abbrev pub covered : Path → Slot → Bool
 covered p s = covers levels p.number (key s)
 
 rises-drop : (es : List Slot) (n : ℕ) → rises es ≡ true → rises (drop n es) ≡ true
@@ -59,48 +62,52 @@ module _ (join : List ℕ → List ℕ → List ℕ) (p : Path) where
       (ltb-true _ _ less))
       ∙ joined_past s es v le out rest
 
--- a scan of the slots from the path's place on; s is the k-th of them
-module _ (join : List ℕ → List ℕ → List ℕ) (p : Path) (es : List Slot) {first : ℕ} (at : first ≡ place es p.number) where
-  pub scan_begins :
-      {v : List ℕ} → v ≡ nearest es p.number
-      → joined join p (drop (first + 0) es) v ≡ joined join p es (nearest es p.number)
-  scan_begins is =
-      ap₂ (λ n w. joined join p (drop n es) w) (omega (arith, at)) is ∙ joined-from join p es (nearest es p.number)
+-- bounds with those of one slot more
+abbrev pub with_slot : Bounds → Slot → Bounds
+with_slot b s =
+    record {
+      least = record { places = lesser b.least.places s.entry.vector.places };
+      greatest = record { places = greater b.greatest.places s.entry.vector.places };
+    }
 
-  module _ {k : ℕ} {s : Slot} (v : List ℕ) (lt : k < length (take (length es - first) (drop first es)))
-      (is : s ≡ get_or (take (length es - first) (drop first es)) k s) where
-    within : first + k < length es
-    within = omega (arith, lt, length-take (length es - first) (drop first es), length-drop first es)
+pub with_slot_is :
+    (a b : Bounds) (s : Slot) → b.least.places ≡ lesser a.least.places s.entry.vector.places
+    → b.greatest.places ≡ greater a.greatest.places s.entry.vector.places → b ≡ with_slot a s
+with_slot_is a b s l g = λ i. record { least = record { places = l i }; greatest = record { places = g i } }
 
-    here : s ≡ get_or es (first + k) s
-    here =
-        is ∙ get_or-take (length es - first) (drop first es) k s (omega (arith, within)) ∙ get_or-drop first es k s
+-- all that p covers is in the run that begins where the slots begin that do not come before p
+module _ (join : List ℕ → List ℕ → List ℕ) (part : Bounds → List ℕ)
+    (is : (b : Bounds) (s : Slot) → part (with_slot b s) ≡ join (part b) s.entry.vector.places) (p : Path) where
+  run :
+      (es : List Slot) (b : Bounds) → rises es ≡ true → ((k : ℕ) (d : Slot) → k < length es → p.number ≤ key (get_or es k d))
+      → part (fold with_slot b (take (prefix_len (covered p) es) es)) ≡ joined join p es (part b)
+  run [] b h ge = refl
+  run (s ∷ es) b h ge = go (covered p s) refl (λ c. run es c (and_parts _ _ h).1 (λ k d lt. ge (suc k) d (omega arith)))
+    where
+      go :
+          (c : Bool) → covered p s ≡ c
+          → ((b : Bounds) → part (fold with_slot b (take (prefix_len (covered p) es) es)) ≡ joined join p es (part b))
+          → part (fold with_slot b (take (cond c (1 + prefix_len (covered p) es) 0) (s ∷ es)))
+          ≡ joined join p es (cond c (join (part b) s.entry.vector.places) (part b))
+      go true in_it rest =
+          ap (λ n. part (fold with_slot b (take n (s ∷ es)))) longer ∙ rest (with_slot b s) ∙ ap (joined join p es) (is b s)
+        where
+          longer : 1 + prefix_len (covered p) es ≡ suc (prefix_len (covered p) es)
+          longer = omega arith
+      go false out rest = sym (joined_past join p s es (part b) (ge 0 s (omega arith)) out (and_parts _ _ h).0)
 
-    from_here : drop (first + k) es ≡ s ∷ drop (first + (k + 1)) es
-    from_here =
-        drop_more es (first + k) s within
-        ∙ ap₂ (λ t n. t ∷ drop n es) (sym here) (omega arith)
+  pub run-join :
+      (es ts : List Slot) (first : ℕ) (b : Bounds) → rises es ≡ true → first ≡ place es p.number
+      → ts ≡ take (length es - first) (drop first es) → part b ≡ nearest es p.number
+      → part (fold with_slot b (take (prefix_len (covered p) ts) ts)) ≡ joined join p es (nearest es p.number)
+  run-join es ts first b h at rest from =
+      ap (λ us. part (fold with_slot b (take (prefix_len (covered p) us) us))) here
+      ∙ run (drop (place es p.number) es) b (rises-drop es (place es p.number) h) ge ∙ joined-from join p es (part b)
+      ∙ ap (joined join p es) from
+    where
+      here : ts ≡ drop (place es p.number) es
+      here = rest ∙ take_rest es first ∙ ap (λ n. drop n es) at
 
-    -- it joins a covered slot
-    pub scan_goes_on :
-        {w answer : List ℕ} → covered p s ≡ true → w ≡ join v s.entry.vector.places
-        → joined join p (drop (first + k) es) v ≡ answer → joined join p (drop (first + (k + 1)) es) w ≡ answer
-    scan_goes_on in_it more left =
-        ap (joined join p (drop (first + (k + 1)) es)) (more ∙ sym (cond-true _ _ _ in_it))
-        ∙ sym (ap (λ t. joined join p t v) from_here) ∙ left
-
-    -- at a slot that is not covered it has joined all
-    pub scan_stops : rises es ≡ true → covered p s ≡ false → joined join p (drop (first + k) es) v ≡ v
-    scan_stops h out =
-        let ge : p.number ≤ key s =
-        subst (λ t. p.number ≤ key t) (sym here) (from_place es p.number (first + k) s h (omega (arith, at)) within) in
-        let rest = subst (λ t. rises t ≡ true) from_here (rises-drop es (first + k) h) in
-        ap (λ t. joined join p t v) from_here ∙ skip join p s (drop (first + (k + 1)) es) v out
-        ∙ joined_past join p s (drop (first + (k + 1)) es) v ge out (and_parts _ (rises (drop (first + (k + 1)) es)) rest).0
-
-  -- and so past the last
-  pub scan_ends :
-      {k : ℕ} (v : List ℕ) → length (take (length es - first) (drop first es)) ≤ k → joined join p (drop (first + k) es) v ≡ v
-  scan_ends {k} v end =
-      ap (λ t. joined join p t v)
-      (drop_all (first + k) es (omega (arith, end, length-take (length es - first) (drop first es), length-drop first es)))
+      ge : (k : ℕ) (d : Slot) → k < length (drop (place es p.number) es) → p.number ≤ key (get_or (drop (place es p.number) es) k d)
+      ge k d lt =
+          rw get_or-drop (from_place es p.number (place es p.number + k) d h (omega arith) (omega (arith, lt, length-drop (place es p.number) es)))

@@ -27,6 +27,7 @@ first_of_front xs n i lt =
     ap (λ k. take 1 (drop i (take k xs))) (omega arith) ∙ ap (take 1) (drop-take i (n - i) xs)
     ∙ take-take 1 (n - i) (drop i xs) (omega arith)
 
+-- a slot whose path stands there is set
 module _ (xs : List Slot) (n i : ℕ) (s : Slot) (h : rises (take n xs) ≡ true) (le : n ≤ length xs) (sought : Sought (take n xs) (key s) (Ok i)) where
   pub set-held : (ys : List Slot) → ys ≡ set xs i s → take n ys ≡ put (take n xs) s
   set-held ys is =
@@ -72,14 +73,15 @@ module _ (xs : List Slot) (n q i : ℕ) (h : rises (take n xs) ≡ true) (le : n
         ∙ sym (dropped_entered (take n xs) q h entered))
         (omega (arith, within))
 
--- it is not, and would come at i
-module _ (xs : List Slot) (n q i : ℕ) (h : rises (take n xs) ≡ true) (sought : Sought (take n xs) q (Err i)) where
+-- it does not
+module _ (xs : List Slot) (n q i : ℕ) (sought : Sought (take n xs) q (Err i)) where
   pub left-held : take n xs ≡ drop_slots (take n xs) q
   left-held = sym (drop_none (take n xs) q sought.2)
 
   pub left-behind : drop n xs ≡ dropped (take n xs) q ++ drop n xs
   left-behind = sym (ap (λ out. out ++ drop n xs) (dropped_none (take n xs) q sought.2))
 
+-- a slot that is new goes to its place
 module _ (xs : List Slot) (n i : ℕ) (s : Slot) (h : rises (take n xs) ≡ true) (lt : n < length xs) (sought : Sought (take n xs) (key s) (Err i))
     (ys : List Slot) (m : ℕ) (b : Bool) (answer : b ≡ (leb i n && ltb n (length xs))) (len : m ≡ cond b (n + 1) n)
     (slots : MatchBool b (Inserts xs ys n i s) (ys ≡ xs)) where

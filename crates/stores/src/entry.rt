@@ -3,13 +3,13 @@ use paths::grade::Grade;
 use paths::path::Path;
 use paths::vector::Vector;
 
-#[derive(Clone, Copy)]
+#[derive(Clone, Copy, PartialEq, Eq)]
 pub struct Entry {
     pub vector: Vector,
     pub grade: Option<Grade>,
 }
 
-#[derive(Clone, Copy)]
+#[derive(Clone, Copy, PartialEq, Eq)]
 pub struct Slot {
     pub path: Path,
     pub entry: Entry,

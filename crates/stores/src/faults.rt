@@ -5,7 +5,7 @@ ghost use Rattle.stores.specs.Located.{at_site};
 
 use paths::fault::{Fault, Site, StoreFault};
 
-#[derive(Clone, Copy)]
+#[derive(Clone, Copy, PartialEq, Eq)]
 pub struct Located {
     pub site: Site,
     pub fault: StoreFault,

@@ -31,10 +31,8 @@ impl<'a> Sorted<'a> {
     pub fn find(self, path: Path) -> Option<Entry>
         ensures { result ≡ lookup self.entry.slots.now path.number }
     {
-        match self.seek(path) {
-            Ok(i) => Some(self.slots[i].entry),
-            Err(_) => None,
-        }
+        let i = self.seek(path).ok()?;
+        Some(self.slots[i].entry)
     }
 
     // The first path after this one, which need not be among them.

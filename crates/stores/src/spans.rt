@@ -30,17 +30,14 @@ impl<'a> Sorted<'a> {
         ensures greatest { result.greatest.places ≡ greatest_at self.entry.slots.now path.number }
     {
         let nearest = self.nearest_vector(path);
-        let mut bounds = Bounds {
+        let nearest = Bounds {
             least: nearest,
             greatest: nearest,
         };
         let first = self.lower_bound(path);
-        for slot in &self.slots[first..] {
-            if !path.covers(slot.path) {
-                break;
-            }
-            bounds = bounds.and(slot.entry.vector);
-        }
-        bounds
+        self.slots[first..]
+            .iter()
+            .take_while(|slot| path.covers(slot.path))
+            .fold(nearest, |bounds, slot| bounds.and(slot.entry.vector))
     }
 }

@@ -1,5 +1,4 @@
 // A table taken through a day of changes and questions; the answers are those of an independent model.
-
 use crate::entry::Entry;
 use crate::making::{blank_root, check_making};
 use crate::table::Table;
@@ -25,74 +24,43 @@ enum Op {
 
 // 9 where a path is not found or a put is refused, 0 where there is no next.
 fn answer(table: &mut Table<'_>, op: Op) -> u32 {
-    match op {
-        Op::Put(number, a, b, c, d) => put(
-            table,
-            number,
-            Vector {
+    done(table, op).unwrap_or(9)
+}
+
+fn done(table: &mut Table<'_>, op: Op) -> Option<u32> {
+    Some(match op {
+        Op::Put(number, a, b, c, d) => {
+            let vector = Vector {
                 places: [a, b, c, d, 0, 0, 0, 0],
-            },
-        ),
-        Op::Drop(number) => {
-            let Ok(path) = Path::try_from(number) else {
-                return 9;
             };
-            if table.drop(path) { 1 } else { 0 }
+            let path = Path::try_from(number).ok()?;
+            let put = table.put(
+                path,
+                Entry {
+                    vector,
+                    grade: None,
+                },
+            );
+            put.ok()?;
+            0
         }
+        Op::Drop(number) => u32::from(table.drop(Path::try_from(number).ok()?)),
         Op::Tick => {
             let _ = table.tick();
             table.clock()
         }
         Op::Count => table.count() as u32,
-        Op::Next(number) => {
-            let Ok(path) = Path::try_from(number) else {
-                return 9;
-            };
-            match table.next(path) {
-                Some(next) => next.number,
-                None => 0,
-            }
-        }
-        Op::Found(number) => found(table, number),
-        Op::Least(number) => {
-            let Ok(path) = Path::try_from(number) else {
-                return 9;
-            };
-            table.bounds(path).least.place(Panel { number: 3 })
-        }
-        Op::Greatest(number) => {
-            let Ok(path) = Path::try_from(number) else {
-                return 9;
-            };
-            table.bounds(path).greatest.place(Panel { number: 3 })
-        }
-    }
+        Op::Next(number) => table
+            .next(Path::try_from(number).ok()?)
+            .map_or(0, |next| next.number),
+        Op::Found(number) => third(table.find(Path::try_from(number).ok()?)?.vector),
+        Op::Least(number) => third(table.bounds(Path::try_from(number).ok()?).least),
+        Op::Greatest(number) => third(table.bounds(Path::try_from(number).ok()?).greatest),
+    })
 }
 
-fn put(table: &mut Table<'_>, number: u32, vector: Vector) -> u32 {
-    let Ok(path) = Path::try_from(number) else {
-        return 9;
-    };
-    match table.put(
-        path,
-        Entry {
-            vector,
-            grade: None,
-        },
-    ) {
-        Ok(()) => 0,
-        Err(_) => 9,
-    }
-}
-
-fn found(table: &Table<'_>, number: u32) -> u32 {
-    let Ok(path) = Path::try_from(number) else {
-        return 9;
-    };
-    match table.find(path) {
-        Some(entry) => entry.vector.place(Panel { number: 3 }),
-        None => 9,
-    }
+fn third(vector: Vector) -> u32 {
+    vector.place(Panel { number: 3 })
 }
 
 const ROOT: u32 = 0;

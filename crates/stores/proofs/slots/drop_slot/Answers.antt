@@ -20,9 +20,9 @@ returns-in-Ok-clause-behind c =
 pub returns-in-Err-clause-held : goal.returns-in-Err-clause-held
 returns-in-Err-clause-held c =
     let sought = rw c.filled.ensures at c.in-Err.ensures.sought in
-    left-held c.args.list.now.slots.now c.args.list.now.len c.args.path.number _ c.requires.0 sought
+    left-held c.args.list.now.slots.now c.args.list.now.len c.args.path.number _ sought
 
 pub returns-in-Err-clause-behind : goal.returns-in-Err-clause-behind
 returns-in-Err-clause-behind c =
     let sought = rw c.filled.ensures at c.in-Err.ensures.sought in
-    left-behind c.args.list.now.slots.now c.args.list.now.len c.args.path.number _ c.requires.0 sought
+    left-behind c.args.list.now.slots.now c.args.list.now.len c.args.path.number _ sought

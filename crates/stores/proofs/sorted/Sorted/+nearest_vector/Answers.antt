@@ -1,7 +1,6 @@
-use Rattle.std.proofs.Common.{◌≡◌, ℕ, ◌<◌, cond, eqb, List, Some, None, sym, ap, ◌∙◌, subst, arith}
+use Rattle.std.proofs.Common.{◌≡◌, ℕ, cond, eqb, List, Some, None, sym, ap, ◌∙◌, arith}
 use Rattle.paths.specs.Steps.{levels, parent}
 use Rattle.paths.specs.declared.path.Path.{Path}
-use Rattle.paths.proofs.Levels.{parent_less}
 use Rattle.paths.proofs.Values.{path-lawful}
 use Rattle.stores.specs.Meaning.{nearest}
 use Rattle.stores.specs.Slots.{lookup}
@@ -11,22 +10,14 @@ use Rattle.stores.proofs.sorted.Sorted.+nearest_vector.Goals as goal
 
 -- `Path::parent` gives q for p
 module _ (p q : Path) (gives : Some q.number ≡ cond (eqb p.number 0) None (Some (parent levels p.number))) where
-  told : (0 < p.number) × (parent levels p.number ≡ q.number)
+  told : parent levels p.number ≡ q.number
   told = read p.number (parent levels p.number) q.number gives
     where
-      read : (n above q : ℕ) → Some q ≡ cond (eqb n 0) None (Some above) → (0 < n) × (above ≡ q)
+      read : (n above q : ℕ) → Some q ≡ cond (eqb n 0) None (Some above) → above ≡ q
       read n above q e = grind arith
 
-  falls : q.number < p.number
-  falls = subst (λ n. n < p.number) told.1 (parent_less levels p.number (path-lawful p) told.0)
-
   nearest-parent : (es : List Slot) → lookup es p.number ≡ None → nearest es p.number ≡ nearest es q.number
-  nearest-parent es none = nearest_above es p.number (path-lawful p) none ∙ ap (nearest es) told.1
-
-pub nearest_vector-requires : goal.nearest_vector-requires
-nearest_vector-requires t c =
-    let less = falls c.args.path c.in-Some-parent.above c.in-Some-parent.ensures in
-    (omega arith, c.requires.rooted)
+  nearest-parent es none = nearest_above es p.number (path-lawful p) none ∙ ap (nearest es) told
 
 pub returns-in-Some : goal.returns-in-Some
 returns-in-Some t c =
