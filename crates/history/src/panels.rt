@@ -18,7 +18,8 @@ use paths::stamp::Panel;
 use stores::entry::Entry;
 
 pub trait Panels {
-    // the numbers of the panels that take part
+    // the numbers of the panels that take part; each call asks for those it names, since a number that shows it in its type
+    // would make every request generic over its panels
     ghost has: { ℕ → Bool };
 
     // the store of each

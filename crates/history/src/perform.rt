@@ -9,7 +9,7 @@ use engine::answers::Conflict;
 use engine::lent::Lists;
 use paths::fault::Fault;
 
-// One request. A sync refills the report from its front.
+// One request, which is data, so that a list of them can be kept: each is one call. A sync refills the report from its front.
 pub fn perform<P: Panels>(
     panels: &mut P,
     request: Request,

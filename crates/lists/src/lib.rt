@@ -4,6 +4,8 @@
 ghost use Rattle.std.specs.Prelude.{◌≡◌, ◌+◌, ◌-◌, ◌<◌, ◌≤◌, ◌&&◌, length, take, if◌then◌else◌, MatchBool, nat_le, nat_lt, slice_set};
 ghost use Rattle.lists.specs.Front.{Inserts, Removes};
 
+// Functions over slices, to which the list hands its own; the memory is the caller's, of a fixed size.
+
 // Puts x before the i-th of the first len places, which are filled.
 pub fn insert_slot<T: Copy>(slots: &mut [T], len: usize, i: usize, x: T)
     requires { (i ≤ len) × (len < length slots.old) }
@@ -29,6 +31,8 @@ pub fn set_slot<T: Copy>(slots: &mut [T], i: usize, x: T)
     slots[i] = x;
 }
 
+// `len` may be anything: a bound in the type would ask more of whoever makes one. Changes tell by a bool whether they took
+// place, as a set's `insert` does, since nothing comes beside it.
 #[derive(Drop)]
 pub struct FrontList<'a, T> {
     pub slots: &'a mut [T],
@@ -57,6 +61,7 @@ impl<'a, T: Copy> FrontList<'a, T> {
         ensures len { self.new.len ≡ self.old.len }
         ensures slots { self.new.slots.now ≡ slice_set self.old.slots.now i x }
         ensures room { length self.new.slots.now ≡ length self.old.slots.now }
+        // of two moments, so that no type can keep it: the slice is still the one that was lent
         ensures same { self.new.slots.ghost_name ≡ self.old.slots.ghost_name }
     {
         if i >= self.slots.len() {

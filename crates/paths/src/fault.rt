@@ -42,7 +42,7 @@ pub enum Fault {
     BadJournal { place: usize },
 }
 
-// A refusal in numbers: path and panel are 0 where there is none.
+// A refusal in numbers, the form in which it is shown: path and panel are 0 where there is none.
 #[derive(Clone, Copy, PartialEq, Eq)]
 pub struct Refusal {
     pub number: u8,

@@ -73,7 +73,8 @@ fn weight(n: usize) -> u32
     256u32.pow(n as u32 - 1)
 }
 
-// The number of the steps that a text writes, at least one and at most n.
+// The number of the steps that a text writes, at least one and at most n. It goes down the text that is left; n only says how
+// many steps may still come.
 fn steps_number(text: &[u8], n: usize) -> Option<u32>
     requires { n ≤ levels }
     ensures { result ≡ read_steps n text.now }

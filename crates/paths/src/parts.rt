@@ -145,7 +145,7 @@ impl SettingParts {
 }
 
 impl Setting {
-    // One to four knobs in range, or the refusal at the call's site.
+    // One to four knobs in range, or the refusal at the call's site, which is no part of the knobs: so it is no `TryFrom`.
     pub fn of_parts(parts: SettingParts, site: Site) -> Result<Setting, Fault>
         ensures { MadeOf setting_parts parts (lawful_setting parts) (OutOfRange site) result }
     {

@@ -16,6 +16,7 @@ pub fn bytes_of(number: u32) -> [u8; Path::LEVELS]
     number.to_be_bytes()
 }
 
+// Each case names the four steps; counted in a loop, the levels would lose their names and gain nothing.
 impl Path {
     pub const LEVELS: usize = 4;
 

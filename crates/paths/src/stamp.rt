@@ -1,6 +1,7 @@
 // Who acted and when: panel numbers from 1 to 8, times from 1 to 1,000,000, and stamps of both.
 ghost use Rattle.std.specs.Prelude.{◌≤◌};
 
+// Panel and time are structs of their own, as a knob is: each has its width, and none may be taken for another.
 #[derive(Clone, Copy, PartialEq, Eq)]
 pub struct Panel {
     pub number: u8,

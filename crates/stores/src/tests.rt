@@ -22,7 +22,7 @@ enum Op {
     Greatest(u32),
 }
 
-// 9 where a path is not found or a put is refused, 0 where there is no next.
+// 9 where a path is not found or a put is refused, 0 where there is no next: one number for each step of the table below.
 fn answer(table: &mut Table<'_>, op: Op) -> u32 {
     done(table, op).unwrap_or(9)
 }
