@@ -7,7 +7,8 @@ use paths::grade::Grade;
 use paths::stamp::Stamp;
 use paths::vector::Vector;
 
-// What one panel has at a leaf: its grade, which may be an option, and the vector there.
+// What one panel has at a leaf: its grade, which may be an option, and the vector there. An entry has the same fields and is
+// another type, since its vector is as stored, with 0 in the own place.
 #[derive(Clone, Copy, PartialEq, Eq)]
 pub struct Side<G> {
     pub grade: G,
@@ -103,6 +104,7 @@ fn both(theirs: Side<Grade>, ours: Side<Grade>) -> Outcome
     }
 }
 
+// The two rules on a single grade, each as it is defined; one for both would take three outcomes.
 fn only_source(theirs: Grade, destination: Vector) -> Outcome
     ensures { result ≡ source_only (version theirs) destination.places }
 {

@@ -1,6 +1,7 @@
 -- The places of a vector, read one at a time into an array of eight zeros.
 use Rattle.std.proofs.Common.{◌≡◌, ℕ, suc, ◌+◌, ◌-◌, ◌<◌, ◌≤◌, List, [], ◌∷◌, ◌++◌, length, take, drop, drop-cons, set, replicate, get_or, Some, None, Option, sym, refl, ap, ap₂, ◌∙◌, add-one, arith, append_assoc, append-nil, length-set}
 use Rattle.std.proofs.lemmas.List.{take_more_set, take_all, drop-set-lt}
+use Rattle.std.proofs.lemmas.Iterator.Adapters.{option_map_id}
 use Rattle.std.specs.Option.{option_map}
 use Rattle.text.specs.Fields.{before_first, after_first}
 use Rattle.leaves.specs.Lines.{and_then, read_place, add_place, read_places, read_vector}
@@ -16,17 +17,13 @@ pub record Reading (whole : Option (List ℕ)) (i : ℕ) (places : List ℕ) (re
   pub zeros : drop i places ≡ replicate (8 - i) 0
   pub read : whole ≡ option_map (λ xs. take i places ++ xs) (places_left (8 - i) rest)
 
-option_map-same : (o : Option (List ℕ)) → o ≡ option_map (λ xs. xs) o
-option_map-same None = refl
-option_map-same (Some xs) = refl
-
 -- what is read of a whole text
 unfoldable pub all_places : List ℕ → Option (List ℕ)
 all_places t = read_places 8 t
 
 pub none_read : (t : List ℕ) → Reading (all_places t) 0 (replicate 8 0) (Some t)
 unfolding all_places
-none_read t = record { eight = refl; zeros = refl; read = option_map-same (read_places 8 t) }
+none_read t = record { eight = refl; zeros = refl; read = sym (option_map_id (read_places 8 t)) }
 
 option_map-append :
     (xs : List ℕ) (x : ℕ) (o : Option (List ℕ))
