@@ -28,6 +28,8 @@ pub trait Panels {
     // what a make of panels keeps in its type says so much
     ghost laws: { (x : Self) → (k : ℕ) → has k ≡ true → Lawful (stores x k) };
 
+    // Four calls are handed a panel and a path: two plain arguments, where a struct would say no more.
+
     // The entry of a panel at a path.
     fn find(&self, panel: Panel, path: Path) -> Option<Entry>
         requires { has panel.number ≡ true }

@@ -3,6 +3,7 @@ ghost use Rattle.std.specs.Prelude.{◌||◌, T, pos, negsuc, ◌≤ℤ◌, is_s
 
 use crate::stamp::{Stamp, StampParts};
 
+// A struct of its own, as a panel and a time are: it has its width, and a range that a const parameter could not give.
 #[derive(Clone, Copy, PartialEq, Eq)]
 pub struct Knob {
     pub value: i16,

@@ -43,6 +43,7 @@ impl TryFrom<u32> for Path {
     }
 }
 
+// Panel, time and knob are made alike, each by its own width and range.
 impl TryFrom<u64> for Panel {
     type Error = RangeError;
 

@@ -16,7 +16,6 @@ pub fn bytes_of(number: u32) -> [u8; Path::LEVELS]
     number.to_be_bytes()
 }
 
-// Each case names the four steps; counted in a loop, the levels would lose their names and gain nothing.
 impl Path {
     pub const LEVELS: usize = 4;
 
@@ -30,13 +29,10 @@ impl Path {
     pub fn depth(self) -> usize
         ensures { result ≡ depth levels self.number }
     {
-        match bytes_of(self.number) {
-            [0, ..] => 0,
-            [_, 0, ..] => 1,
-            [_, _, 0, _] => 2,
-            [_, _, _, 0] => 3,
-            _ => 4,
-        }
+        bytes_of(self.number)
+            .iter()
+            .position(|step| *step == 0)
+            .unwrap_or(Path::LEVELS)
     }
 
     pub fn is_leaf(self) -> bool
@@ -45,7 +41,7 @@ impl Path {
         self.depth() == Path::LEVELS
     }
 
-    // The path without its last step; the root has none.
+    // The path without its last step; the root has none. Each case says by its pattern which step is the last.
     pub fn parent(self) -> Option<Path>
         ensures { option_map (λ p. p.number) result ≡ (if nat_eq self.number 0 then None else Some (above levels self.number)) }
     {
@@ -59,7 +55,8 @@ impl Path {
         Some(Path { number })
     }
 
-    // Whether other begins with all steps of this path.
+    // Whether other begins with all steps of this path. By byte and byte in a chain, with a test of two parts for each, it was
+    // tried, and the search does not follow such a chain.
     pub fn covers(self, other: Path) -> bool
         ensures { result ≡ covers levels self.number other.number }
     {

@@ -1,4 +1,5 @@
-// A store's fault on its way up: the call adds its site, and `?` turns both into the call's fault.
+// A store's fault on its way up: the call adds its site, and `?` turns both, by `From`, into the call's fault. A rule of the
+// project has it so, so that no call builds the fault by hand.
 ghost use Rattle.std.specs.Prelude.{◌≡◌};
 ghost use Rattle.paths.specs.declared.fault.Fault.TheVariants.{Store};
 ghost use Rattle.stores.specs.Located.{at_site};

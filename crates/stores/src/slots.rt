@@ -1,4 +1,5 @@
-// Changes of a list whose filled places are slots in path order.
+// Changes of a list whose filled places are slots in path order: two, so that the order is asked for by a clause of each. What
+// they promise of the slice, `room` and `same`, ties two moments, so that no type can keep it.
 ghost use Rattle.std.specs.Prelude.{◌≡◌, ◌-◌, ◌≤◌, true, not, ◌&&◌, ◌++◌, length, take, drop, is_some, is_ok, if◌then◌else◌, Ok, Err, ◌==◌};
 ghost use Rattle.paths.specs.declared.fault.Cause.TheVariants.{Full};
 ghost use Rattle.stores.specs.Slots.{key, lookup, put as put_slots, drop as drop_slots, dropped, rises};

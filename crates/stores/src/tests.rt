@@ -6,8 +6,8 @@ use crate::traits::{ReadHalf, Store};
 use paths::path::Path;
 use paths::stamp::Panel;
 use paths::vector::Vector;
-use std::test::Fail;
 
+// Data, so that each operation can stand beside its answer.
 #[derive(Clone, Copy)]
 enum Op {
     // a path by its number, and the first four places of its vector
@@ -76,7 +76,7 @@ const OTHER: u32 = 0x0102_0304;
 const LAST: u32 = 0x0900_0000;
 
 #[test]
-fn a_table_answers_as_the_model_does(rt: HostRuntime) -> Result<(), Fail> {
+fn a_table_answers_as_the_model_does(rt: HostRuntime) {
     let steps = [
         (Op::Count, 1),
         (Op::Put(SCENE, 0, 0, 5, 0), 0),
@@ -110,7 +110,6 @@ fn a_table_answers_as_the_model_does(rt: HostRuntime) -> Result<(), Fail> {
     for (op, want) in steps {
         assert!(rt; answer(&mut table, op) == want);
     }
-    Ok(())
 }
 
 #[test]
