@@ -1,13 +1,13 @@
 -- Reading a path's steps gives back exactly what printing writes.
-use Rattle.std.proofs.Common.{◌≡◌, ℕ, zero, suc, ◌+◌, ◌-◌, ◌*◌, ◌^◌, ◌<◌, ◌≤◌, Bool, true, false, List, [], ◌∷◌, ◌++◌, length, get_or, Some, None, Ok, Err, decimal, Option, Result, sym, refl, ap, ◌∙◌, subst, ap₂, sub-one, arith, rules}
-use native.Mathlib.Nat.{pow-le-pow_right}
+use Rattle.std.proofs.Common.{◌≡◌, ℕ, zero, suc, ◌+◌, ◌-◌, ◌*◌, ◌^◌, ◌<◌, ◌≤◌, Bool, true, false, List, [], ◌∷◌, ◌++◌, length, set, replicate, get_or, Some, None, Ok, Err, decimal, Option, Result, sym, refl, ap, ◌∙◌, subst, ap₂, arith, rules, length-set}
+use Rattle.std.specs.Int.{w32, from_be_bytes}
 use Rattle.std.specs.Option.{option_map}
 use Rattle.std.specs.Str.{all_ascii_digits}
 use Rattle.std.proofs.lemmas.Fmt.{decimal-digits_value, digits_decimal, digits_value-decimal, decimal_nonempty, first_decimal}
-use Rattle.std.proofs.lemmas.List.{get_or_append_left}
+use Rattle.std.proofs.lemmas.List.{get_or_append_left, get_or-replicate, get_or-set_other}
 use Rattle.std.proofs.lemmas.Str.Parse.{IsNumeralModel, numerals_by_fold}
 use Rattle.std.proofs.lemmas.Bool.{cond-true, cond-false}
-use Rattle.paths.proofs.Levels.{by_first, number_lt, of_path, round_trip}
+use Rattle.paths.proofs.Levels.{of_path, round_trip}
 use Rattle.paths.proofs.Values.{path-lawful}
 use Rattle.paths.specs.Notation.{only_step, read_step, read_steps, add_step, is_dot, read_path, text_of, Parsed, joined, path_text}
 use Rattle.paths.specs.declared.fault.Fault.{Fault}
@@ -160,31 +160,6 @@ written_read (suc n) x (y ∷ ys) h =
     (split_digits (decimal x) (joined y ys) (digits_decimal own x (grind arith)))
     ∙ ap (option_map (λ m. x * 256 ^ n + m)) (written_read n y ys (grind arith))
 
--- one level at a time, as the code goes: w is the weight of the first step, f that step and a the text after it
-pub read_steps_by :
-    (levels w : ℕ) (t : List ℕ) {front : List ℕ} {o f : Option ℕ} {b a : Option (List ℕ)} → (levels ≡ 0 → ⊥)
-    → w ≡ 256 ^ (levels - 1) → front ≡ before_first 47 t → o ≡ read_step front → o ≡ f → b ≡ after_first 47 t → b ≡ a
-    → add_step w f (option_map (read_steps (levels - 1)) a) ≡ read_steps levels t
-read_steps_by zero w t some weight before step is after rest = absurd (some refl)
-read_steps_by (suc n) w t {f = f} {a = a} some weight before step is after rest =
-    let first : read_step (before_first 47 t) ≡ f = ap read_step (sym before) ∙ sym step ∙ is in
-    let more : after_first 47 t ≡ a = sym after ∙ rest in rw (weight, sub-one, ← first, ← more)
-
--- what is read is below the weight of the step before it
-pub read_lt : (n k : ℕ) (t : List ℕ) → read_steps n t ≡ Some k → k < 256 ^ n
-read_lt n k t e = let w = read_written n k t e in omega (arith, number_lt n w.path w.lawful, w.number_is)
-
--- the weight of a first step is at most that of four levels
-pub weight_most : (levels : ℕ) → levels ≤ 4 → 256 ^ (levels - 1) ≤ 256 ^ 3
-weight_most levels few =
-    let deep : levels - 1 ≤ 3 = omega arith in pow-le-pow_right {n = 256} (omega arith) deep
-
--- a first step and what is read after it fit 32 bits
-pub steps_fit :
-    (levels w x k : ℕ) → levels ≤ 4 → w ≡ 256 ^ (levels - 1) → x < 256 → k < w → x * w + k < 2 ^ 32
-steps_fit levels w x k few weight step small =
-    let most = weight_most levels few in omega (arith, by_first w x 256 k 0 small step)
-
 -- a text that begins with a digit is no dot
 not_dot : (t : List ℕ) → 48 < get_or t 0 0 → is_dot t ≡ false
 not_dot [] digit = refl
@@ -248,3 +223,120 @@ pub parsed_from-made :
 parsed_from-made t m (Ok p) read made =
     ap (λ k. path_text (steps levels k)) made.1 ∙ (path-written levels t m read).1
 parsed_from-made t m (Err f) read made = absurd (search (rules, (path-written levels t m read).0, made.0))
+
+-- what the n levels still to come add, of what is left of the text
+abbrev pub steps_left : ℕ → Option (List ℕ) → Option ℕ
+steps_left n None = Some 0
+steps_left n (Some u) = read_steps n u
+
+abbrev pub added : ℕ → Option ℕ → Option ℕ
+added k o = option_map (λ m. k + m) o
+
+-- the first i steps are read, the other bytes are 0, and what is left of the text tells the whole
+pub record Reading (whole : Option ℕ) (i : ℕ) (bytes : List ℕ) (rest : Option (List ℕ)) : Type 0 where
+  pub four : length bytes ≡ 4
+  pub zeros : (k : ℕ) → i ≤ k → k < 4 → get_or bytes k 0 ≡ 0
+  pub read : whole ≡ added (from_be_bytes w32 bytes) (steps_left (4 - i) rest)
+
+added_zero : (o : Option ℕ) → added 0 o ≡ o
+added_zero None = refl
+added_zero (Some m) = ap Some (omega arith)
+
+pub none_read : (t : List ℕ) → Reading (read_steps levels t) 0 (replicate 4 0) (Some t)
+none_read t = record { four = refl; zeros = λ k le. get_or-replicate 4 k 0 0; read = sym (added_zero (read_steps 4 t)) }
+
+added-twice : (a b : ℕ) (o : Option ℕ) → added a (added b o) ≡ added (a + b) o
+added-twice a b None = refl
+added-twice a b (Some m) = ap Some (omega arith)
+
+-- a byte that was 0 adds its weight
+byte_set :
+    (bytes : List ℕ) (i x : ℕ) → length bytes ≡ 4 → i < 4 → get_or bytes i 0 ≡ 0
+    → from_be_bytes w32 bytes + x * 256 ^ (4 - (i + 1)) ≡ from_be_bytes w32 (set bytes i x)
+byte_set (a ∷ b ∷ c ∷ d ∷ []) zero x four lt none = omega arith
+byte_set (a ∷ b ∷ c ∷ d ∷ []) (suc zero) x four lt none = omega arith
+byte_set (a ∷ b ∷ c ∷ d ∷ []) (suc (suc zero)) x four lt none = omega arith
+byte_set (a ∷ b ∷ c ∷ d ∷ []) (suc (suc (suc zero))) x four lt none = omega arith
+byte_set bytes i x four lt none = absurd (omega arith)
+
+-- a byte more is x
+more :
+    {whole : Option ℕ} {i : ℕ} {bytes bytes' : List ℕ} {rest : Option (List ℕ)} (rest' : Option (List ℕ)) (x : ℕ)
+    → Reading whole i bytes rest → i < 4
+    → steps_left (4 - i) rest ≡ added (x * 256 ^ (4 - (i + 1))) (steps_left (4 - (i + 1)) rest') → bytes' ≡ set bytes i x
+    → Reading whole (i + 1) bytes' rest'
+more {i = i} {bytes = bytes} rest' x r lt next put_here =
+    record {
+      four = ap length put_here ∙ length-set bytes i x ∙ r.four;
+      zeros =
+          λ k le small.
+          ap (λ xs. get_or xs k 0) put_here ∙ get_or-set_other bytes i k x 0 (λ same. omega arith)
+          ∙ r.zeros k (omega arith) small;
+      read =
+          r.read ∙ ap (added (from_be_bytes w32 bytes)) next
+          ∙ added-twice (from_be_bytes w32 bytes) (x * 256 ^ (4 - (i + 1))) (steps_left (4 - (i + 1)) rest')
+          ∙ ap (λ n. added n (steps_left (4 - (i + 1)) rest'))
+          (byte_set bytes i x r.four lt (r.zeros i (omega arith) lt) ∙ ap (from_be_bytes w32) (sym put_here));
+    }
+
+next_step :
+    (n : ℕ) (u : List ℕ) (x : ℕ) → read_step (before_first 47 u) ≡ Some x
+    → read_steps (suc n) u ≡ added (x * 256 ^ n) (steps_left n (after_first 47 u))
+next_step n u x is = rw is (go (after_first 47 u))
+  where
+    go : (o : Option (List ℕ)) → add_step (256 ^ n) (Some x) (option_map (read_steps n) o) ≡ added (x * 256 ^ n) (steps_left n o)
+    go None = ap Some (omega arith)
+    go (Some v) = refl
+
+-- a step is read
+pub one_more :
+    {whole : Option ℕ} {i : ℕ} {bytes bytes' u : List ℕ} {rest rest' : Option (List ℕ)} (x : ℕ)
+    → Reading whole i bytes rest → i < 4 → rest ≡ Some u → Some x ≡ read_step (before_first 47 u)
+    → bytes' ≡ set bytes i x → rest' ≡ after_first 47 u → Reading whole (i + 1) bytes' rest'
+one_more {i = i} {u = u} {rest' = rest'} x r lt is one put_here left =
+    let n = 4 - (i + 1) in
+    let here : 4 - i ≡ suc n = omega arith in
+    more rest' x r lt
+    (ap₂ steps_left here is ∙ next_step n u x (sym one) ∙ ap (λ o. added (x * 256 ^ n) (steps_left n o)) (sym left))
+    put_here
+
+-- the text has ended, and a byte stays 0
+pub none_more :
+    {whole : Option ℕ} {i : ℕ} {bytes bytes' : List ℕ} {rest rest' : Option (List ℕ)}
+    → Reading whole i bytes rest → i < 4 → rest ≡ None → bytes' ≡ set bytes i (get_or bytes i 0) → rest' ≡ rest
+    → Reading whole (i + 1) bytes' rest'
+none_more {i = i} {bytes = bytes} {rest' = rest'} r lt is put_here left =
+    let n = 4 - (i + 1) in
+    more rest' 0 r lt
+    (ap (steps_left (4 - i)) is ∙ ap Some (omega arith)
+    ∙ ap (λ o. added (0 * 256 ^ n) (steps_left n o)) (sym (left ∙ is)))
+    (put_here ∙ ap (set bytes i) (r.zeros i (omega arith) lt))
+
+-- what the reading comes to
+ended :
+    {whole : Option ℕ} {i : ℕ} {bytes : List ℕ} {rest rest' : Option (List ℕ)} → Reading whole i bytes rest → 4 ≤ i
+    → rest ≡ rest' → added (from_be_bytes w32 bytes) (steps_left 0 rest') ≡ whole
+ended {i = i} {bytes = bytes} r le is =
+    let none : 4 - i ≡ 0 = omega arith in
+    sym (r.read ∙ ap₂ (λ n o. added (from_be_bytes w32 bytes) (steps_left n o)) none is)
+
+pub all_read :
+    {whole : Option ℕ} {i : ℕ} {bytes : List ℕ} {rest : Option (List ℕ)} → Reading whole i bytes rest → 4 ≤ i
+    → rest ≡ None → Some (from_be_bytes w32 bytes) ≡ whole
+all_read r le is = ap Some (omega arith) ∙ ended r le is
+
+pub too_many :
+    {whole : Option ℕ} {i : ℕ} {bytes u : List ℕ} {rest : Option (List ℕ)} → Reading whole i bytes rest → 4 ≤ i
+    → rest ≡ Some u → None ≡ whole
+too_many r le is = ended r le is
+
+pub no_step :
+    {whole : Option ℕ} {i : ℕ} {bytes u : List ℕ} {rest : Option (List ℕ)} → Reading whole i bytes rest → i < 4
+    → rest ≡ Some u → None ≡ read_step (before_first 47 u) → None ≡ whole
+no_step {i = i} {bytes = bytes} {u = u} r lt is missing =
+    let n = 4 - (i + 1) in
+    let here : 4 - i ≡ suc n = omega arith in
+    sym
+    (r.read ∙ ap₂ (λ k o. added (from_be_bytes w32 bytes) (steps_left k o)) here is
+    ∙ ap (λ o. added (from_be_bytes w32 bytes) (add_step (256 ^ n) o (option_map (read_steps n) (after_first 47 u))))
+    (sym missing))

@@ -1,5 +1,5 @@
 // Paths and stamps as text.
-ghost use Rattle.std.specs.Prelude.{◌≡◌, ◌-◌, ◌^◌, ◌≤◌, ◌∷◌, ◌++◌, Some, decimal};
+ghost use Rattle.std.specs.Prelude.{◌≡◌, ◌∷◌, ◌++◌, Some, decimal};
 ghost use Rattle.paths.specs.Steps.{levels};
 ghost use Rattle.paths.specs.Notation.{text_of, Parsed, read_step, read_steps, read_path};
 
@@ -53,7 +53,7 @@ fn path_number(text: &[u8]) -> Option<u32>
 {
     match text {
         [b'.'] => Some(0),
-        _ => steps_number(text, Path::LEVELS),
+        _ => steps_number(text),
     }
 }
 
@@ -65,27 +65,21 @@ fn step(text: &[u8]) -> Option<u8>
         .filter(|step| *step != 0)
 }
 
-// What a first step of n levels counts: 256 for each level below it.
-fn weight(n: usize) -> u32
-    requires { (1 ≤ n) × (n ≤ levels) }
-    ensures { result ≡ 256 ^ (n - 1) }
+// The number of the steps that a text writes, at least one and at most as many as there are levels; missing steps are 0.
+fn steps_number(text: &[u8]) -> Option<u32>
+    ensures { result ≡ read_steps levels text.now }
 {
-    256u32.pow(n as u32 - 1)
-}
-
-// The number of the steps that a text writes, at least one and at most n. It goes down the text that is left; n only says how
-// many steps may still come.
-fn steps_number(text: &[u8], n: usize) -> Option<u32>
-    requires { n ≤ levels }
-    ensures { result ≡ read_steps n text.now }
-{
-    if n == 0 {
-        return None;
+    let mut steps = [0; Path::LEVELS];
+    let mut rest = Some(text);
+    for byte in &mut steps {
+        if let Some(text) = rest {
+            let (first, after) = split_first(text, b'/');
+            *byte = step(first)?;
+            rest = after;
+        }
     }
-    let (first, rest) = split_first(text, b'/');
-    let high = step(first)? as u32 * weight(n);
     match rest {
-        None => Some(high),
-        Some(rest) => Some(high + steps_number(rest, n - 1)?),
+        None => Some(u32::from_be_bytes(steps)),
+        Some(_) => None,
     }
 }
