@@ -216,6 +216,11 @@ none_written t unread p e =
     sym (path_read levels p.number (path-lawful p)) ∙ ap (read_path levels) e ∙ unread in
     let z : ◌≡◌ {A = ℕ} 0 1 = cc in omega arith
 
+-- what is said of a text that no path is written as
+pub parsed_as-none :
+    (t : List ℕ) (r : Result Path Fault) → read_path levels t ≡ None → r ≡ Err NoPath → Parsed t r
+parsed_as-none t r unread is = subst (Parsed t) (sym is) (refl, none_written t unread)
+
 -- what is made of the number that was read is the path that is written so
 pub parsed_from-made :
     (t : List ℕ) (m : ℕ) (r : Result Path Fault) → read_path levels t ≡ Some m

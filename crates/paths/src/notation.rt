@@ -41,10 +41,7 @@ impl<'a> TryFrom<&'a [u8]> for Path {
     ghost try_from_gives = { λ text r. Parsed text.now r };
 
     fn try_from(text: &'a [u8]) -> Result<Path, Fault> {
-        let Some(number) = path_number(text) else {
-            return Err(Fault::NoPath);
-        };
-        Path::try_from(number)
+        Path::try_from(path_number(text).ok_or(Fault::NoPath)?)
     }
 }
 

@@ -1,9 +1,9 @@
-use Rattle.std.proofs.Common.{sym, refl, ◌∙◌}
-use Rattle.paths.proofs.ReadSteps.{parsed_from-made, none_written}
+use Rattle.std.proofs.Common.{rules}
+use Rattle.paths.proofs.ReadSteps.{parsed_as-none, parsed_from-made}
 use Rattle.paths.proofs.notation.PathTryFromRefSliceU8.try_from.Goals as goal
 
-pub returns-in_default : goal.returns-in_default
-returns-in_default c = (refl, none_written c.args.text.now (sym c.path_number.ensures ∙ c.in_default.is))
+pub returns-in_err-ok_or : goal.returns-in_err-ok_or
+returns-in_err-ok_or c = parsed_as-none c.args.text.now c.from_residual.result (search rules) (search rules)
 
 pub returns : goal.returns
-returns c = parsed_from-made _ _ _ (sym c.path_number.ensures ∙ c.in-Some.is) c.try_from.ensures
+returns c = parsed_from-made c.args.text.now c.in_ok-ok_or.field-0 c.try_from.result (search rules) c.try_from.ensures
