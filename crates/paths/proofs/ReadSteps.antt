@@ -317,24 +317,15 @@ none_more {i = i} {bytes = bytes} {rest' = rest'} r lt is put_here left =
     ∙ ap (λ o. added (0 * 256 ^ n) (steps_left n o)) (sym (left ∙ is)))
     (put_here ∙ ap (set bytes i) (r.zeros i (omega arith) lt))
 
--- what the reading comes to
-ended :
+-- the bytes are full: a text that has ended has been read, and any other is too long
+pub ended :
     {whole : Option ℕ} {i : ℕ} {bytes : List ℕ} {rest rest' : Option (List ℕ)} → Reading whole i bytes rest → 4 ≤ i
     → rest ≡ rest' → added (from_be_bytes w32 bytes) (steps_left 0 rest') ≡ whole
 ended {i = i} {bytes = bytes} r le is =
     let none : 4 - i ≡ 0 = omega arith in
     sym (r.read ∙ ap₂ (λ n o. added (from_be_bytes w32 bytes) (steps_left n o)) none is)
 
-pub all_read :
-    {whole : Option ℕ} {i : ℕ} {bytes : List ℕ} {rest : Option (List ℕ)} → Reading whole i bytes rest → 4 ≤ i
-    → rest ≡ None → Some (from_be_bytes w32 bytes) ≡ whole
-all_read r le is = ap Some (omega arith) ∙ ended r le is
-
-pub too_many :
-    {whole : Option ℕ} {i : ℕ} {bytes u : List ℕ} {rest : Option (List ℕ)} → Reading whole i bytes rest → 4 ≤ i
-    → rest ≡ Some u → None ≡ whole
-too_many r le is = ended r le is
-
+-- a text that writes no step is none of a path
 pub no_step :
     {whole : Option ℕ} {i : ℕ} {bytes u : List ℕ} {rest : Option (List ℕ)} → Reading whole i bytes rest → i < 4
     → rest ≡ Some u → None ≡ read_step (before_first 47 u) → None ≡ whole

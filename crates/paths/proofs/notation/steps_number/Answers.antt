@@ -1,7 +1,7 @@
-use Rattle.std.proofs.Common.{Some, ap, ◌∙◌}
+use Rattle.std.proofs.Common.{Some, ap, ◌∙◌, arith}
 use Rattle.std.specs.Option.{option_map}
 use Rattle.paths.specs.Notation.{read_step}
-use Rattle.paths.proofs.ReadSteps.{none_read, one_more, none_more, all_read, too_many, no_step}
+use Rattle.paths.proofs.ReadSteps.{none_read, one_more, none_more, ended, no_step}
 use Rattle.paths.proofs.notation.steps_number.Goals as goal
 use Rattle.paths.proofs.notation.steps_number.Goals.{in-Some+in_ok-byte, in_default}
 
@@ -28,9 +28,9 @@ returns-in_err-byte c =
 
 pub returns-in-None : goal.returns-in-None
 returns-in-None c =
-    ap Some c.from_be_bytes.ensures
-    ∙ all_read c.loop-byte.invariant c.loop-byte-test.false (ap (option_map (λ x. x.now)) c.in-None.is)
+    ap Some (omega arith)
+    ∙ ended c.loop-byte.invariant c.loop-byte-test.false (ap (option_map (λ x. x.now)) c.in-None.is)
 
 pub returns-in-Some-rest : goal.returns-in-Some-rest
 returns-in-Some-rest c =
-    too_many c.loop-byte.invariant c.loop-byte-test.false (ap (option_map (λ x. x.now)) c.in-Some-rest.is)
+    ended c.loop-byte.invariant c.loop-byte-test.false (ap (option_map (λ x. x.now)) c.in-Some-rest.is)
