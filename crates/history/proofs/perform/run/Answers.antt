@@ -1,7 +1,5 @@
-use Rattle.std.proofs.Common.{length, refl, ap, ◌∙◌, subst, arith, rules}
-use Rattle.std.proofs.lemmas.List.{take_all}
+use Rattle.std.proofs.Common.{length, refl, ap, ◌∙◌, rules}
 use Rattle.history.proofs.Continuing.{none_asked, asked_next, named_at, report-room}
-use Rattle.history.specs.Requests.{AsksAll, Continues}
 use Rattle.history.proofs.perform.run.Goals as goal
 
 pub loop-request-init : goal.loop-request-init
@@ -32,11 +30,3 @@ loop-request-preserved g c =
           ap length here.reported
           ∙ report-room _ c.request-item.result _ _ _ c.loop-request.lists.report.slots.now here.done ∙ kept.report;
     }
-
-pub returns : goal.returns
-returns g c =
-    subst
-    (λ rs. Continues g.P.Panels.has
-    (AsksAll (length c.args.lists.now.work.slots.now) (length c.args.lists.now.report.slots.now) rs)
-    (g.P.Panels.stores c.args.panels.now) (g.P.Panels.stores c.loop-request.panels))
-    (take_all c.loop-request.request-index c.args.requests.now (omega arith)) c.loop-request.invariant.law
