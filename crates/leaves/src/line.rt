@@ -5,9 +5,9 @@ ghost use Rattle.leaves.specs.Lines.{read_stamp, read_stamps, read_grade, read_p
 
 use engine::leaf::Side;
 use paths::grade::{GradeParts, Knobs};
-use paths::stamp::{Panel, StampParts};
+use paths::stamp::StampParts;
 use paths::vector::Vector;
-use text::{read_number, split_first};
+use text::{read_fields, read_number, split_first};
 
 // A is the panel that a sync goes from, and B the one that it goes onto.
 #[derive(Clone, Copy)]
@@ -85,17 +85,7 @@ fn read_place(text: &[u8]) -> Option<u32>
 fn read_vector(text: &[u8]) -> Option<Vector>
     ensures { result ≡ read_vector text.now }
 {
-    let mut places = [0; Panel::COUNT];
-    let mut rest = Some(text);
-    for place in &mut places {
-        if let Some(text) = rest {
-            let (first, after) = split_first(text, b',');
-            *place = read_place(first)?;
-            rest = after;
-        }
-    }
-    match rest {
-        None => Some(Vector { places }),
-        Some(_) => None,
-    }
+    Some(Vector {
+        places: read_fields(text, b',', 0, read_place)?,
+    })
 }

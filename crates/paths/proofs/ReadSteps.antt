@@ -1,10 +1,9 @@
 -- Reading a path's steps gives back exactly what printing writes.
-use Rattle.std.proofs.Common.{◌≡◌, ℕ, zero, suc, ◌+◌, ◌-◌, ◌*◌, ◌^◌, ◌<◌, ◌≤◌, Bool, true, false, List, [], ◌∷◌, ◌++◌, length, set, replicate, get_or, Some, None, Ok, Err, decimal, Option, Result, sym, refl, ap, ◌∙◌, subst, ap₂, arith, rules, length-set}
-use Rattle.std.specs.Int.{w32, from_be_bytes}
+use Rattle.std.proofs.Common.{◌≡◌, ℕ, zero, suc, ◌+◌, ◌-◌, ◌*◌, ◌^◌, ◌<◌, Bool, true, false, List, [], ◌∷◌, ◌++◌, length, get_or, Some, None, Ok, Err, decimal, Option, Result, sym, refl, ap, ◌∙◌, subst, ap₂, arith, rules}
 use Rattle.std.specs.Option.{option_map}
 use Rattle.std.specs.Str.{all_ascii_digits}
 use Rattle.std.proofs.lemmas.Fmt.{decimal-digits_value, digits_decimal, digits_value-decimal, decimal_nonempty, first_decimal}
-use Rattle.std.proofs.lemmas.List.{get_or_append_left, get_or-replicate, get_or-set_other}
+use Rattle.std.proofs.lemmas.List.{get_or_append_left}
 use Rattle.std.proofs.lemmas.Str.Parse.{IsNumeralModel, numerals_by_fold}
 use Rattle.std.proofs.lemmas.Bool.{cond-true, cond-false}
 use Rattle.paths.proofs.Levels.{of_path, round_trip}
@@ -228,111 +227,3 @@ pub parsed_from-made :
 parsed_from-made t m (Ok p) read made =
     ap (λ k. path_text (steps levels k)) made.1 ∙ (path-written levels t m read).1
 parsed_from-made t m (Err f) read made = absurd (search (rules, (path-written levels t m read).0, made.0))
-
--- what the n levels still to come add, of what is left of the text
-abbrev pub steps_left : ℕ → Option (List ℕ) → Option ℕ
-steps_left n None = Some 0
-steps_left n (Some u) = read_steps n u
-
-abbrev pub added : ℕ → Option ℕ → Option ℕ
-added k o = option_map (λ m. k + m) o
-
--- the first i steps are read, the other bytes are 0, and what is left of the text tells the whole
-pub record Reading (whole : Option ℕ) (i : ℕ) (bytes : List ℕ) (rest : Option (List ℕ)) : Type 0 where
-  pub four : length bytes ≡ 4
-  pub zeros : (k : ℕ) → i ≤ k → k < 4 → get_or bytes k 0 ≡ 0
-  pub read : whole ≡ added (from_be_bytes w32 bytes) (steps_left (4 - i) rest)
-
-added_zero : (o : Option ℕ) → added 0 o ≡ o
-added_zero None = refl
-added_zero (Some m) = ap Some (omega arith)
-
-pub none_read : (t : List ℕ) → Reading (read_steps levels t) 0 (replicate 4 0) (Some t)
-none_read t = record { four = refl; zeros = λ k le. get_or-replicate 4 k 0 0; read = sym (added_zero (read_steps 4 t)) }
-
-added-twice : (a b : ℕ) (o : Option ℕ) → added a (added b o) ≡ added (a + b) o
-added-twice a b None = refl
-added-twice a b (Some m) = ap Some (omega arith)
-
--- a byte that was 0 adds its weight
-byte_set :
-    (bytes : List ℕ) (i x : ℕ) → length bytes ≡ 4 → i < 4 → get_or bytes i 0 ≡ 0
-    → from_be_bytes w32 bytes + x * 256 ^ (4 - (i + 1)) ≡ from_be_bytes w32 (set bytes i x)
-byte_set (a ∷ b ∷ c ∷ d ∷ []) zero x four lt none = omega arith
-byte_set (a ∷ b ∷ c ∷ d ∷ []) (suc zero) x four lt none = omega arith
-byte_set (a ∷ b ∷ c ∷ d ∷ []) (suc (suc zero)) x four lt none = omega arith
-byte_set (a ∷ b ∷ c ∷ d ∷ []) (suc (suc (suc zero))) x four lt none = omega arith
-byte_set bytes i x four lt none = absurd (omega arith)
-
--- a byte more is x
-more :
-    {whole : Option ℕ} {i : ℕ} {bytes bytes' : List ℕ} {rest : Option (List ℕ)} (rest' : Option (List ℕ)) (x : ℕ)
-    → Reading whole i bytes rest → i < 4
-    → steps_left (4 - i) rest ≡ added (x * 256 ^ (4 - (i + 1))) (steps_left (4 - (i + 1)) rest') → bytes' ≡ set bytes i x
-    → Reading whole (i + 1) bytes' rest'
-more {i = i} {bytes = bytes} rest' x r lt next put_here =
-    record {
-      four = ap length put_here ∙ length-set bytes i x ∙ r.four;
-      zeros =
-          λ k le small.
-          ap (λ xs. get_or xs k 0) put_here ∙ get_or-set_other bytes i k x 0 (λ same. omega arith)
-          ∙ r.zeros k (omega arith) small;
-      read =
-          r.read ∙ ap (added (from_be_bytes w32 bytes)) next
-          ∙ added-twice (from_be_bytes w32 bytes) (x * 256 ^ (4 - (i + 1))) (steps_left (4 - (i + 1)) rest')
-          ∙ ap (λ n. added n (steps_left (4 - (i + 1)) rest'))
-          (byte_set bytes i x r.four lt (r.zeros i (omega arith) lt) ∙ ap (from_be_bytes w32) (sym put_here));
-    }
-
-next_step :
-    (n : ℕ) (u : List ℕ) (x : ℕ) → read_step (before_first 47 u) ≡ Some x
-    → read_steps (suc n) u ≡ added (x * 256 ^ n) (steps_left n (after_first 47 u))
-next_step n u x is = rw is (go (after_first 47 u))
-  where
-    go : (o : Option (List ℕ)) → add_step (256 ^ n) (Some x) (option_map (read_steps n) o) ≡ added (x * 256 ^ n) (steps_left n o)
-    go None = ap Some (omega arith)
-    go (Some v) = refl
-
--- a step is read
-pub one_more :
-    {whole : Option ℕ} {i : ℕ} {bytes bytes' u : List ℕ} {rest rest' : Option (List ℕ)} (x : ℕ)
-    → Reading whole i bytes rest → i < 4 → rest ≡ Some u → Some x ≡ read_step (before_first 47 u)
-    → bytes' ≡ set bytes i x → rest' ≡ after_first 47 u → Reading whole (i + 1) bytes' rest'
-one_more {i = i} {u = u} {rest' = rest'} x r lt is one put_here left =
-    let n = 4 - (i + 1) in
-    let here : 4 - i ≡ suc n = omega arith in
-    more rest' x r lt
-    (ap₂ steps_left here is ∙ next_step n u x (sym one) ∙ ap (λ o. added (x * 256 ^ n) (steps_left n o)) (sym left))
-    put_here
-
--- the text has ended, and a byte stays 0
-pub none_more :
-    {whole : Option ℕ} {i : ℕ} {bytes bytes' : List ℕ} {rest rest' : Option (List ℕ)}
-    → Reading whole i bytes rest → i < 4 → rest ≡ None → bytes' ≡ set bytes i (get_or bytes i 0) → rest' ≡ rest
-    → Reading whole (i + 1) bytes' rest'
-none_more {i = i} {bytes = bytes} {rest' = rest'} r lt is put_here left =
-    let n = 4 - (i + 1) in
-    more rest' 0 r lt
-    (ap (steps_left (4 - i)) is ∙ ap Some (omega arith)
-    ∙ ap (λ o. added (0 * 256 ^ n) (steps_left n o)) (sym (left ∙ is)))
-    (put_here ∙ ap (set bytes i) (r.zeros i (omega arith) lt))
-
--- the bytes are full: a text that has ended has been read, and any other is too long
-pub ended :
-    {whole : Option ℕ} {i : ℕ} {bytes : List ℕ} {rest rest' : Option (List ℕ)} → Reading whole i bytes rest → 4 ≤ i
-    → rest ≡ rest' → added (from_be_bytes w32 bytes) (steps_left 0 rest') ≡ whole
-ended {i = i} {bytes = bytes} r le is =
-    let none : 4 - i ≡ 0 = omega arith in
-    sym (r.read ∙ ap₂ (λ n o. added (from_be_bytes w32 bytes) (steps_left n o)) none is)
-
--- a text that writes no step is none of a path
-pub no_step :
-    {whole : Option ℕ} {i : ℕ} {bytes u : List ℕ} {rest : Option (List ℕ)} → Reading whole i bytes rest → i < 4
-    → rest ≡ Some u → None ≡ read_step (before_first 47 u) → None ≡ whole
-no_step {i = i} {bytes = bytes} {u = u} r lt is missing =
-    let n = 4 - (i + 1) in
-    let here : 4 - i ≡ suc n = omega arith in
-    sym
-    (r.read ∙ ap₂ (λ k o. added (from_be_bytes w32 bytes) (steps_left k o)) here is
-    ∙ ap (λ o. added (from_be_bytes w32 bytes) (add_step (256 ^ n) o (option_map (read_steps n) (after_first 47 u))))
-    (sym missing))

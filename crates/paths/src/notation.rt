@@ -7,7 +7,7 @@ use crate::fault::Fault;
 use crate::path::{Path, bytes_of};
 use crate::stamp::Stamp;
 use std::fmt;
-use text::{read_number, split_first};
+use text::{read_fields, read_number};
 
 impl fmt::Display for Path {
     ghost output = { λ p. Some (text_of p) };
@@ -66,17 +66,5 @@ fn step(text: &[u8]) -> Option<u8>
 fn steps_number(text: &[u8]) -> Option<u32>
     ensures { result ≡ read_steps levels text.now }
 {
-    let mut steps = [0; Path::LEVELS];
-    let mut rest = Some(text);
-    for byte in &mut steps {
-        if let Some(text) = rest {
-            let (first, after) = split_first(text, b'/');
-            *byte = step(first)?;
-            rest = after;
-        }
-    }
-    match rest {
-        None => Some(u32::from_be_bytes(steps)),
-        Some(_) => None,
-    }
+    read_fields(text, b'/', 0, step).map(u32::from_be_bytes)
 }

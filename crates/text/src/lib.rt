@@ -1,9 +1,10 @@
 // Reading numbers and fields from bytes.
 #![tactic(auto)]
 
-ghost use Rattle.std.specs.Prelude.{◌≡◌};
+ghost use Rattle.std.specs.Prelude.{◌≡◌, Some};
+ghost use Rattle.std.specs.Fn.{FnReturnsAt};
 ghost use Rattle.std.specs.Option.{option_map};
-ghost use Rattle.text.specs.Fields.{before_first, after_first, Marked};
+ghost use Rattle.text.specs.Fields.{before_first, after_first, Marked, FieldsRead};
 ghost use Rattle.text.specs.Numerals.{digits_value, numeral};
 
 // The number that decimal digits write; past 64 bits it is the greatest that fits.
@@ -51,5 +52,30 @@ pub fn split_first(text: &[u8], mark: u8) -> (&[u8], Option<&[u8]>)
             (&text[0..i], Some(after))
         }
         None => (text, None),
+    }
+}
+
+// The fields that marks part, at least one and at most N; those that are left out are blank.
+pub fn read_fields<T: Copy, const N: usize, F: Fn(&[u8]) -> Option<T>>(
+    text: &[u8],
+    mark: u8,
+    blank: T,
+    read: F,
+) -> Option<[T; N]>
+    requires { F.IsAlwaysCallable read }
+    ensures { FieldsRead (FnReturnsAt F.Fn read) mark blank N (Some text.now) result }
+{
+    let mut fields = [blank; N];
+    let mut rest = Some(text);
+    for field in &mut fields {
+        if let Some(text) = rest {
+            let (first, after) = split_first(text, mark);
+            *field = read(first)?;
+            rest = after;
+        }
+    }
+    match rest {
+        None => Some(fields),
+        Some(_) => None,
     }
 }
