@@ -6,7 +6,7 @@ use Rattle.std.specs.Option.{option_map}
 use Rattle.text.specs.Fields.{before_first, after_first, FieldsRead}
 
 module _ {X : Type 0} (R : List ℕ → Option X → Type 0) (mark : ℕ) (blank : X) (many : ℕ) where
-  -- the first i fields are read, the others are blank, and what is made of the rest of the text tells what is made of the whole
+  -- the first i fields are read, the others are blank, and what is made of what is left of the text tells what of the whole
   pub record Reading (text : List ℕ) (i : ℕ) (fields : List X) (rest : Option (List ℕ)) : Type 0 where
     pub size : length fields ≡ many
     pub blanks : drop i fields ≡ replicate (many - i) blank
@@ -21,8 +21,9 @@ option_map-append xs x (Some ys) = ap Some (sym (append_assoc xs (x ∷ []) ys))
 
 -- the first of the blanks, and those behind it
 first_blank :
-    {X : Type 0} {blank : X} {many : ℕ} (i : ℕ) (fields : List X) → i < many → length fields ≡ many → drop i fields ≡ replicate (many - i) blank
-    → (x : X) → (get_or fields i x ≡ blank) × (drop (i + 1) fields ≡ replicate (many - (i + 1)) blank)
+    {X : Type 0} {blank : X} {many : ℕ} (i : ℕ) (fields : List X) → i < many → length fields ≡ many
+    → drop i fields ≡ replicate (many - i) blank → (x : X)
+    → (get_or fields i x ≡ blank) × (drop (i + 1) fields ≡ replicate (many - (i + 1)) blank)
 first_blank {blank = blank} {many = many} i fields lt size blanks x =
     let more : many - i ≡ suc (many - (i + 1)) = omega arith in
     let all : drop i fields ≡ blank ∷ replicate (many - (i + 1)) blank = blanks ∙ ap (λ n. replicate n blank) more in

@@ -55,7 +55,7 @@ pub fn split_first(text: &[u8], mark: u8) -> (&[u8], Option<&[u8]>)
     }
 }
 
-// The fields that marks part, at least one and at most N; those that are left out are blank.
+// The fields of a text, with a mark between them, at least one and at most N; those that are left out are blank.
 pub fn read_fields<T: Copy, const N: usize, F: Fn(&[u8]) -> Option<T>>(
     text: &[u8],
     mark: u8,
