@@ -3,12 +3,9 @@ use Rattle.std.specs.Option.{option_map}
 use Rattle.std.specs.Fn.{FnReturnsAt}
 use Rattle.std.proofs.lemmas.Fn.{says_at}
 use Rattle.text.specs.Fields.{FieldsRead}
-use Rattle.text.proofs.ReadFields.{none_read, one_more, none_more, all_read, too_many, no_field}
+use Rattle.text.proofs.ReadFields.{one_more, none_more, all_read, too_many, no_field}
 use Rattle.text.proofs.read_fields.Goals as goal
 use Rattle.text.proofs.read_fields.Goals.{in-Some+in_ok-field, in_default}
-
-pub loop-field-init : goal.loop-field-init
-loop-field-init g c = none_read c.args.text.now
 
 pub loop-field-preserved : goal.loop-field-preserved
 loop-field-preserved g c =
