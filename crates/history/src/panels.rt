@@ -43,6 +43,7 @@ pub trait Panels {
     fn write(&mut self, panel: Panel, path: Path, setting: SettingParts) -> Result<u32, Fault>
         requires { has panel.number ≡ true }
         ensures done { Writes (stores self.old panel.number) path setting result (stores self.new panel.number) }
+        // of two moments, here and below, so that no type can keep it: no other panel changed
         ensures only { OnlyAt panel.number (stores self.old) (stores self.new) };
 
     fn remove(&mut self, panel: Panel, path: Path) -> Result<Removal, Fault>
