@@ -6,7 +6,7 @@ use Rattle.paths.specs.declared.fault.Fault.{Fault}
 use Rattle.engine.specs.Syncs.{entries_after, conflicts_of}
 use Rattle.engine.specs.declared.answers.Reported.{Reported}
 use Rattle.history.specs.History.{Call, write, remove, sync, open_conflict, choose, leave, Event}
-use Rattle.history.specs.Requests.{names, all_name, Performs, report_left, calls, Asks, AsksAll, Continues}
+use Rattle.history.specs.Requests.{names, all_name, Performs, report_left, calls, Asks, AsksAll, Point, Performed, PerformsAll, Continues}
 use Rattle.history.specs.Runs.{Stores, OnlyAt, leaves_of, Does, among_panels, Run}
 use Rattle.history.specs.declared.request.Answer.{Answer}
 use Rattle.history.specs.declared.request.Request.{Request}
@@ -123,6 +123,30 @@ module _ (has : ℕ → Bool) where
       ap (λ r. take i qs ++ (r ∷ [])) is ∙ sym (take_more qs i q lt) in
       subst (λ rs. Continues has (AsksAll work report rs) start after) more
       (asked_more work report (take i qs) q start before after first here)
+
+-- a request behind others
+performs_behind :
+    (work report : ℕ) (qs : List Request) (q : Request) (start here after : Point) (r : Result Answer Fault)
+    → PerformsAll work report qs start here → Performed work report q here r after
+    → PerformsAll work report (qs ++ (q ∷ [])) start after
+performs_behind work report [] q start here after r none does =
+    (r, after, subst (λ p. Performed work report q p r after) none does, refl)
+performs_behind work report (p ∷ qs) q start here after r (x, between, first, rest) does =
+    (x, between, first, performs_behind work report qs q between here after r rest does)
+
+-- the next of the requests, where the lists still have the places that they had
+pub performed_next :
+    (work report work' report' : ℕ) (qs : List Request) (i : ℕ) (q : Request) (start here after : Point)
+    (r : Result Answer Fault) → work' ≡ work → report' ≡ report → i < length qs → q ≡ get_or qs i q
+    → PerformsAll work report (take i qs) start here → Performed work' report' q here r after
+    → PerformsAll work report (take (i + 1) qs) start after
+performed_next work report work' report' qs i q start here after r w n lt is first does =
+    let does_here : Performed work report q here r after =
+    subst (λ (t : ℕ × ℕ). Performed t.0 t.1 q here r after) (ap₂ (λ a b. (a, b)) w n) does in
+    let more : take i qs ++ (q ∷ []) ≡ take (i + 1) qs =
+    ap (λ t. take i qs ++ (t ∷ [])) is ∙ sym (take_more qs i q lt) in
+    subst (λ rs. PerformsAll work report rs start after) more
+    (performs_behind work report (take i qs) q start here after r first does_here)
 
 -- each of the requests names panels that take part
 pub named_at :

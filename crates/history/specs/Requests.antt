@@ -1,8 +1,10 @@
 -- What a request does to the panels, and which calls it comes to.
-use Rattle.std.specs.Prelude.{◌≡◌, ℕ, Bool, true, cond, ◌&&◌, ◌⊎◌, List, [], ◌∷◌, ◌++◌, length, drop, Ok, Err, Result}
+use Rattle.std.specs.Prelude.{is_ok, MatchBool, ◌≡◌, ℕ, Bool, true, cond, ◌&&◌, ◌⊎◌, List, [], ◌∷◌, ◌++◌, length, drop, Ok, Err, Result}
+use Rattle.lists.specs.declared.FrontList.{FrontList}
 use Rattle.paths.specs.declared.fault.Fault.{Fault}
 use Rattle.paths.specs.declared.path.Path.{Path}
 use Rattle.stores.specs.Meaning.{Model}
+use Rattle.stores.specs.declared.entry.Slot.{Slot}
 use Rattle.engine.specs.Acts.{Writes, Removes}
 use Rattle.engine.specs.Conflicts.{Opens, Chooses}
 use Rattle.engine.specs.Syncs.{Syncs, conflicts_of}
@@ -10,6 +12,7 @@ use Rattle.engine.specs.declared.answers.Choice.{Choice}
 use Rattle.engine.specs.declared.answers.Conflict.{Conflict}
 use Rattle.engine.specs.declared.answers.Removal.{Removal}
 use Rattle.engine.specs.declared.answers.Reported.{Reported}
+use Rattle.engine.specs.declared.lent.Lists.{Lists}
 use Rattle.engine.specs.declared.tally.Tally.{Tally}
 use Rattle.history.specs.History.{Call, write, remove, sync, open_conflict, choose, leave, Event, history}
 use Rattle.history.specs.Law.{Promises}
@@ -83,6 +86,45 @@ report_count (Sync m) before ok filled =
     cond ok (length (conflicts_of (before m.source.number) (before m.destination.number) m.path)) filled
 report_count (Inspect m) before ok filled = filled
 report_count (Resolve m c) before ok filled = filled
+
+-- a list that nobody touched
+pub record Untouched (before after : FrontList Slot) : Type 0 where
+  pub places : after.slots.now ≡ before.slots.now
+  pub filled : after.len ≡ before.len
+
+-- the work list after a request that was accepted or not: what it holds is open after a sync that is done
+abbrev pub WorkLeft : Request → Bool → FrontList Slot → FrontList Slot → Type 0
+WorkLeft (Write k p s) ok before after = Untouched before after
+WorkLeft (Remove k p) ok before after = Untouched before after
+WorkLeft (Sync m) ok before after =
+    MatchBool ok (length after.slots.now ≡ length before.slots.now) (Untouched before after)
+WorkLeft (Inspect m) ok before after = Untouched before after
+WorkLeft (Resolve m c) ok before after = Untouched before after
+
+-- both lists are still the ones that were lent
+pub record StayLent (before after : Lists) : Type 0 where
+  pub work : after.work.slots.ghost_name ≡ before.work.slots.ghost_name
+  pub report : after.report.slots.ghost_name ≡ before.report.slots.ghost_name
+
+-- where a list of requests has come to
+pub record Point : Type 0 where
+  pub stores : Stores
+  pub lists : Lists
+
+-- what one request, answered so, makes of the stores and the lists
+pub record Performed (work report : ℕ) (q : Request) (before : Point) (r : Result Answer Fault) (after : Point) : Type 0 where
+  pub done : Performs work report q before.stores r after.stores
+  pub reported :
+      after.lists.report.slots.now ≡ report_left q before.stores (is_ok r) before.lists.report.slots.now
+  pub filled : after.lists.report.len ≡ report_count q before.stores (is_ok r) before.lists.report.len
+  pub worked : WorkLeft q (is_ok r) before.lists.work after.lists.work
+
+-- what a list of requests does, one after the other
+abbrev pub PerformsAll : (work report : ℕ) → List Request → Point → Point → Type 0
+PerformsAll work report [] before after = after ≡ before
+PerformsAll work report (q ∷ qs) before after =
+    (r : Result Answer Fault) × (between : Point) × Performed work report q before r between
+    × PerformsAll work report qs between after
 
 -- the calls of a list of events, the latest first
 abbrev pub calls : List Event → List Call

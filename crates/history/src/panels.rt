@@ -1,11 +1,11 @@
 // Panels that stand together. Each call names its panels by their numbers.
-ghost use Rattle.std.specs.Prelude.{◌≡◌, ℕ, Bool, true, ◌&&◌, length};
+ghost use Rattle.std.specs.Prelude.{◌≡◌, ℕ, Bool, true, ◌&&◌, length, OnErr};
 ghost use Rattle.engine.specs.Acts.{Writes, Removes};
 ghost use Rattle.engine.specs.Conflicts.{Opens};
 ghost use Rattle.engine.specs.Syncs.{Syncs, report_after, report_filled, WorkAfter};
 ghost use Rattle.stores.specs.Meaning.{Lawful};
 ghost use Rattle.stores.specs.Slots.{lookup, next_after};
-ghost use Rattle.history.specs.Requests.{Resolves};
+ghost use Rattle.history.specs.Requests.{Resolves, Untouched, StayLent};
 ghost use Rattle.history.specs.Runs.{Stores, OnlyAt};
 
 use engine::answers::{Choice, Conflict, Meeting, Removal};
@@ -58,7 +58,9 @@ pub trait Panels {
         ensures only { OnlyAt meeting.destination.number (stores self.old) (stores self.new) }
         ensures reported { lists.new.report.slots.now ≡ report_after (stores self.old meeting.source.number) (stores self.old meeting.destination.number) meeting.path result lists.old.report.slots.now }
         ensures filled { lists.new.report.len ≡ report_filled (stores self.old meeting.source.number) (stores self.old meeting.destination.number) meeting.path result lists.old.report.len }
-        ensures worked { WorkAfter result lists.old.work.slots.now lists.new.work.slots.now };
+        ensures worked { WorkAfter result lists.old.work.slots.now lists.new.work.slots.now }
+        ensures idle { OnErr result (Untouched lists.old.work lists.new.work) }
+        ensures lent { StayLent lists.old lists.new };
 
     // Opens the conflict at a leaf and leaves it.
     fn inspect(&self, meeting: Meeting) -> Result<Conflict, Fault>

@@ -1,7 +1,7 @@
 // Requests worked through on panels, whatever their stores are made of. What they leave is a run, and so the law holds of
 // these very panels.
 ghost use Rattle.std.specs.Prelude.{◌≡◌, true, length, is_ok};
-ghost use Rattle.history.specs.Requests.{names, all_name, Performs, report_left, report_count, Asks, AsksAll, Continues};
+ghost use Rattle.history.specs.Requests.{names, all_name, Performs, report_left, report_count, WorkLeft, StayLent, Asks, AsksAll, PerformsAll, Continues};
 
 use crate::panels::Panels;
 use crate::request::{Answer, Request};
@@ -21,6 +21,8 @@ pub fn perform<P: Panels>(
     ensures reported { lists.new.report.slots.now ≡ report_left request (P.Panels.stores panels.old) (is_ok result) lists.old.report.slots.now }
     ensures filled { lists.new.report.len ≡ report_count request (P.Panels.stores panels.old) (is_ok result) lists.old.report.len }
     ensures work { length lists.new.work.slots.now ≡ length lists.old.work.slots.now }
+    ensures worked { WorkLeft request (is_ok result) lists.old.work lists.new.work }
+    ensures lent { StayLent lists.old lists.new }
 {
     match request {
         Request::Write(panel, path, setting) => {
@@ -53,7 +55,10 @@ fn pass_by(answer: Result<Answer, Fault>) {
 // A list of requests, one after the other; those that are refused change nothing.
 pub fn run<P: Panels>(panels: &mut P, requests: &[Request], lists: &mut Lists<'_, '_>)
     requires { all_name P.Panels.has requests.now ≡ true }
-    ensures { Continues P.Panels.has (AsksAll (length lists.old.work.slots.now) (length lists.old.report.slots.now) requests.now) (P.Panels.stores panels.old) (P.Panels.stores panels.new) }
+    ensures law { Continues P.Panels.has (AsksAll (length lists.old.work.slots.now) (length lists.old.report.slots.now) requests.now) (P.Panels.stores panels.old) (P.Panels.stores panels.new) }
+    ensures done { PerformsAll (length lists.old.work.slots.now) (length lists.old.report.slots.now) requests.now (record { stores = P.Panels.stores panels.old; lists = lists.old }) (record { stores = P.Panels.stores panels.new; lists = lists.new }) }
+    ensures work { length lists.new.work.slots.now ≡ length lists.old.work.slots.now }
+    ensures lent { StayLent lists.old lists.new }
 {
     for request in requests {
         pass_by(perform(panels, *request, lists));

@@ -1,5 +1,5 @@
 // Values from the plain numbers that a caller hands in: lawful ones, or a refusal.
-ghost use Rattle.std.specs.Prelude.{◌≡◌, not};
+ghost use Rattle.std.specs.Prelude.{◌≡◌, ◌&&◌, not, nat_le};
 ghost use Rattle.std.specs.Option.{option_map};
 ghost use Rattle.paths.specs.declared.fault.Fault.TheVariants.{NoPath, OutOfRange};
 ghost use Rattle.paths.specs.Faults.{nowhere};
@@ -43,19 +43,24 @@ impl TryFrom<u32> for Path {
     }
 }
 
-// Panel, time and knob are made alike, each by its own width and range.
+// A number from 1 to the last.
+fn from_one_to(last: u32, number: u64) -> Result<u32, RangeError>
+    ensures { MadeOf (λ n. n) number (nat_le 1 number && nat_le number last) range_error result }
+{
+    match u32::try_from(number) {
+        Ok(number) if 1 <= number && number <= last => Ok(number),
+        _ => Err(RangeError),
+    }
+}
+
 impl TryFrom<u64> for Panel {
     type Error = RangeError;
 
     ghost try_from_gives = { λ n r. MadeOf (λ p. p.number) n (is_panel n) range_error r };
 
     fn try_from(number: u64) -> Result<Panel, RangeError> {
-        match number {
-            1..=8 => Ok(Panel {
-                number: number as u8,
-            }),
-            _ => Err(RangeError),
-        }
+        let number = from_one_to(Panel::COUNT as u32, number)? as u8;
+        Ok(Panel { number })
     }
 }
 
@@ -65,12 +70,8 @@ impl TryFrom<u64> for Time {
     ghost try_from_gives = { λ n r. MadeOf (λ t. t.value) n (is_time n) range_error r };
 
     fn try_from(value: u64) -> Result<Time, RangeError> {
-        match value {
-            1..=1_000_000 => Ok(Time {
-                value: value as u32,
-            }),
-            _ => Err(RangeError),
-        }
+        let value = from_one_to(Time::LAST, value)?;
+        Ok(Time { value })
     }
 }
 

@@ -1,5 +1,5 @@
 // Version vectors: what a panel knows of the acts of each of the eight panels.
-ghost use Rattle.std.specs.Prelude.{◌≡◌, min, max};
+ghost use Rattle.std.specs.Prelude.{◌≡◌, ◌-◌, min, max};
 ghost use Rattle.paths.specs.Vectors.{place, with_place, EachPlace, greater as greater_places, lesser as lesser_places, at_most, known};
 
 use crate::stamp::{Panel, Stamp};
@@ -24,19 +24,26 @@ pub fn greater_place(a: u32, b: u32) -> u32
     a.max(b)
 }
 
+// Where the place of a panel stands.
+fn index(panel: Panel) -> usize
+    ensures { result ≡ panel.number - 1 }
+{
+    panel.number as usize - 1
+}
+
 impl Vector {
     // Up to which time the acts of a panel have arrived.
     pub fn place(self, panel: Panel) -> u32
         ensures { result ≡ place self.places panel.number }
     {
-        self.places[panel.number as usize - 1]
+        self.places[index(panel)]
     }
 
     pub fn with_place(self, panel: Panel, value: u32) -> Vector
         ensures { result.places ≡ with_place self.places panel.number value }
     {
         let mut places = self.places;
-        places[panel.number as usize - 1] = value;
+        places[index(panel)] = value;
         Vector { places }
     }
 

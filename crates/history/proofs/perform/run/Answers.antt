@@ -1,5 +1,5 @@
 use Rattle.std.proofs.Common.{length, refl, ap, ◌∙◌, rules}
-use Rattle.history.proofs.Continuing.{none_asked, asked_next, named_at, report-room}
+use Rattle.history.proofs.Continuing.{none_asked, asked_next, performed_next, named_at, report-room}
 use Rattle.history.proofs.perform.run.Goals as goal
 
 pub loop-request-init : goal.loop-request-init
@@ -8,8 +8,10 @@ loop-request-init g c =
       law =
           none_asked g.P.Panels.has (length c.args.lists.now.work.slots.now) (length c.args.lists.now.report.slots.now)
           (g.P.Panels.stores c.args.panels.now);
+      done = refl;
       work = refl;
       report = refl;
+      lent = record { work = refl; report = refl };
     }
 
 pub perform-requires : goal.perform-requires
@@ -25,8 +27,14 @@ loop-request-preserved g c =
       law =
           asked_next g.P.Panels.has _ _ _ _ c.args.requests.now c.loop-request.request-index c.request-item.result _ _ _
           kept.work kept.report c.loop-request-test.true c.request-item.is kept.law here.law;
+      done =
+          performed_next _ _ _ _ c.args.requests.now c.loop-request.request-index c.request-item.result _ _ _
+          c.perform.result
+          kept.work kept.report c.loop-request-test.true c.request-item.is kept.done
+          (record { done = here.done; reported = here.reported; filled = here.filled; worked = here.worked });
       work = here.work ∙ kept.work;
       report =
           ap length here.reported
           ∙ report-room _ c.request-item.result _ _ _ c.loop-request.lists.report.slots.now here.done ∙ kept.report;
+      lent = record { work = here.lent.work ∙ kept.lent.work; report = here.lent.report ∙ kept.lent.report };
     }

@@ -3,4 +3,4 @@ use Rattle.paths.proofs.Places.{put_at-set}
 use Rattle.paths.proofs.vector.Vector.with_place.Goals as goal
 
 pub returns : goal.returns
-returns c = sym (put_at-set c.args.self.places _ c.args.value (omega arith))
+returns c = rw c.index.ensures (sym (put_at-set c.args.self.places _ c.args.value (omega arith)))
