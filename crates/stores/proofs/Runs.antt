@@ -23,7 +23,7 @@ rises-drop [] (suc n) h = refl
 rises-drop (s ∷ es) (suc n) h = rises-drop es n (grind arith)
 
 -- from the path's place on no slot comes before it
-from_place :
+pub from_place :
     (es : List Slot) (q i : ℕ) (d : Slot) → rises es ≡ true → place es q ≤ i → i < length es → q ≤ key (get_or es i d)
 from_place [] q i d h le lt = absurd (omega arith)
 from_place (s ∷ es) q zero d h le lt = grind arith

@@ -9,7 +9,7 @@ use Rattle.stores.proofs.Order.{put_entered, put_new, drop_entered, dropped_ente
 use Rattle.stores.specs.Slots.{Sought, key, lookup, put, drop as drop_slots, dropped, rises}
 use Rattle.stores.specs.declared.entry.Slot.{Slot}
 
-drop_none : (es : List Slot) (q : ℕ) → lookup es q ≡ None → drop_slots es q ≡ es
+pub drop_none : (es : List Slot) (q : ℕ) → lookup es q ≡ None → drop_slots es q ≡ es
 drop_none [] q none = refl
 drop_none (s ∷ es) q none = grind (arith, drop_none es q)
 
@@ -52,22 +52,22 @@ module _ (xs : List Slot) (n q i : ℕ) (h : rises (take n xs) ≡ true) (le : n
     yes : b ≡ true
     yes = answer ∙ and_from (ltb i n) (leb n (length xs)) (lt-ltb i n within) (le-leb n (length xs) le)
 
-    fewer : m ≡ n - 1
-    fewer = len ∙ ap (λ t. cond t (n - 1) n) yes
+    pub remove-fewer : m ≡ n - 1
+    remove-fewer = len ∙ ap (λ t. cond t (n - 1) n) yes
 
     moved : Removes xs ys (n - 1) i
     moved = subst (λ t. MatchBool t (Removes xs ys (n - 1) i) (ys ≡ xs)) yes slots
 
-    pub remove-held : take m ys ≡ drop_slots (take n xs) q
+    pub remove-held : take (n - 1) ys ≡ drop_slots (take n xs) q
     remove-held =
-        ap (λ k. take k ys) fewer ∙ moved.held
+        moved.held
         ∙ ap₂ (λ front k. front ++ drop (i + 1) (take k xs)) (sym (take-take i n xs (omega (arith, within)))) (omega (arith, within))
         ∙ ap₂ (λ k l. take k (take n xs) ++ drop l (take n xs)) sought.0 (add-one i ∙ ap suc sought.0)
         ∙ sym (drop_entered (take n xs) q h entered)
 
-    pub remove-behind : drop m ys ≡ dropped (take n xs) q ++ drop n xs
+    pub remove-behind : drop (n - 1) ys ≡ dropped (take n xs) q ++ drop n xs
     remove-behind =
-        ap (λ k. drop k ys) fewer ∙ moved.behind
+        moved.behind
         ∙ ap₂ (λ out k. out ++ drop k xs)
         (sym (first_of_front xs n i within) ∙ ap (λ k. take 1 (drop k (take n xs))) sought.0
         ∙ sym (dropped_entered (take n xs) q h entered))
@@ -91,20 +91,20 @@ module _ (xs : List Slot) (n i : ℕ) (s : Slot) (h : rises (take n xs) ≡ true
   fits : b ≡ true
   fits = answer ∙ and_from (leb i n) (ltb n (length xs)) (le-leb i n before_end) (lt-ltb n (length xs) lt)
 
-  more : m ≡ n + 1
-  more = len ∙ ap (λ t. cond t (n + 1) n) fits
+  pub insert-more : m ≡ n + 1
+  insert-more = len ∙ ap (λ t. cond t (n + 1) n) fits
 
   inserted : Inserts xs ys n i s
   inserted = subst (λ t. MatchBool t (Inserts xs ys n i s) (ys ≡ xs)) fits slots
 
-  pub insert-held : take m ys ≡ put (take n xs) s
+  pub insert-held : take (n + 1) ys ≡ put (take n xs) s
   insert-held =
-      ap (λ k. take k ys) more ∙ inserted.held
+      inserted.held
       ∙ ap (λ t. t ++ (s ∷ drop i (take n xs))) (sym (take-take i n xs before_end))
       ∙ ap (λ k. take k (take n xs) ++ (s ∷ drop k (take n xs))) sought.0
       ∙ sym (put_new (take n xs) s h (ap is_some sought.2))
 
-  pub insert-len : m ≡ length (put (take n xs) s)
+  pub insert-len : n + 1 ≡ length (put (take n xs) s)
   insert-len =
-      more ∙ ap (λ k. k + 1) (sym (length-take-le n xs (omega arith)))
+      ap (λ k. k + 1) (sym (length-take-le n xs (omega arith)))
       ∙ sym (put_count (take n xs) s h ∙ cond-false _ _ _ (ap is_some sought.2))

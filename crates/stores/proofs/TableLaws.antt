@@ -65,7 +65,7 @@ module _ {number : Panel} {clock capacity len : ℕ} {places : List Slot} (sound
       (lawful-drop m p.number sound.lawful) (omega (arith, room, sound.filled, sound.room, fewer)) (omega (arith, sound.room, room))
 
 -- the root alone means a blank store, which is lawful
-lawful-blank :
+pub lawful-blank :
     (number : Panel) (capacity : ℕ) → 1 ≤ capacity → capacity ≤ 1000 → Lawful (blank number capacity)
 lawful-blank number capacity some small =
     record {

@@ -5,6 +5,7 @@ pub mod entry;
 pub mod faults;
 pub mod height;
 pub mod laws;
+pub mod lending;
 pub mod making;
 pub mod slots;
 pub mod sorted;

@@ -7,7 +7,6 @@ ghost use Rattle.stores.specs.Tables.{table_model};
 
 use crate::entry::{Entry, Slot};
 use crate::table::Table;
-use lists::FrontList;
 use paths::fault::Fault;
 use paths::path::Path;
 use paths::stamp::Panel;
@@ -48,15 +47,16 @@ impl<'a> Table<'a> {
     pub fn make(number: Panel, capacity: usize, slots: &'a mut [Slot]) -> Table<'a>
         requires { (1 ≤ capacity) × ((capacity ≤ 1000) × (capacity ≤ length slots.old)) }
         ensures model { table_model result ≡ blank number capacity }
-        ensures slots { result.list.slots.now ≡ slice_set slots.old 0 root_slot }
-        ensures same { result.list.slots.ghost_name ≡ slots.entry.ghost_name }
+        ensures slots { result.slots.now ≡ slice_set slots.old 0 root_slot }
+        ensures same { result.slots.ghost_name ≡ slots.entry.ghost_name }
     {
         slots[0] = blank_root();
         Table {
             number,
             clock: 0,
             capacity,
-            list: FrontList { slots, len: 1 },
+            slots,
+            len: 1,
         }
     }
 }

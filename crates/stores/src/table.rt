@@ -1,15 +1,16 @@
-// A store in memory: its entries in path order at the front of a list that the caller lends.
+// A store in memory: its entries in path order at the front of a slice that the caller lends.
 ghost use Rattle.stores.specs.TableSound.{TableSound};
 
 use crate::entry::Slot;
-use lists::FrontList;
 use paths::stamp::Panel;
 
+// It holds the slice itself, and no list with the slice in it: only so does the caller who lent it learn what it holds after.
 #[derive(Drop)]
 pub struct Table<'a> {
     pub number: Panel,
     pub clock: u32,
     pub capacity: usize,
-    pub list: FrontList<'a, Slot>,
-    ghost sound: { TableSound number clock capacity list.len list.slots.now },
+    pub slots: &'a mut [Slot],
+    pub len: usize,
+    ghost sound: { TableSound number clock capacity len slots.now },
 }

@@ -15,7 +15,7 @@ impl<'a> Table<'a> {
         ensures { result.slots.now ≡ entries self.now }
     {
         Sorted {
-            slots: self.list.filled(),
+            slots: &self.slots[..self.len],
         }
     }
 }
@@ -42,7 +42,7 @@ impl<'a> ReadHalf for Table<'a> {
     }
 
     fn count(&self) -> usize {
-        self.list.len
+        self.len
     }
 
     fn find(&self, path: Path) -> Option<Entry> {

@@ -1,5 +1,6 @@
-use Rattle.std.proofs.Common.{ap, ◌∙◌, take, arith}
-use Rattle.stores.proofs.Slices.{set-held, set-len, insert-held, insert-len}
+use Rattle.std.proofs.Common.{◌≡◌, ap, ◌∙◌, length, take, subst, arith}
+use Rattle.stores.proofs.Slices.{set-held, set-len, insert-more, insert-held, insert-len}
+use Rattle.stores.specs.Slots.{put}
 use Rattle.stores.proofs.slots.put_slot.Goals as goal
 
 pub returns-in-Ok-clause-held : goal.returns-in-Ok-clause-held
@@ -20,13 +21,17 @@ returns-else-list-most-clause-held c =
     let list = c.args.list.now in
     let sought = rw c.filled.ensures at c.in-Err.ensures.sought in
     let did = c.insert.ensures in
-    insert-held list.slots.now list.len c.in-Err.i c.args.slot c.requires.0 (omega arith) sought _ _ _ did.answer did.len
-    did.slots
+    let more =
+    insert-more list.slots.now list.len c.in-Err.i c.args.slot c.requires.0 (omega arith) sought _ _ _ did.answer did.len did.slots in
+    subst (λ k. take k c.insert.new.self.slots.now ≡ put (take list.len list.slots.now) c.args.slot) (omega (arith, more))
+    (insert-held list.slots.now list.len c.in-Err.i c.args.slot c.requires.0 (omega arith) sought _ _ _ did.answer did.len did.slots)
 
 pub returns-else-list-most-clause-len : goal.returns-else-list-most-clause-len
 returns-else-list-most-clause-len c =
     let list = c.args.list.now in
     let sought = rw c.filled.ensures at c.in-Err.ensures.sought in
     let did = c.insert.ensures in
-    insert-len list.slots.now list.len c.in-Err.i c.args.slot c.requires.0 (omega arith) sought c.insert.new.self.slots.now _ _ did.answer did.len
-    did.slots
+    let more =
+    insert-more list.slots.now list.len c.in-Err.i c.args.slot c.requires.0 (omega arith) sought _ _ _ did.answer did.len did.slots in
+    subst (λ k. k ≡ length (put (take list.len list.slots.now) c.args.slot)) (omega (arith, more))
+    (insert-len list.slots.now list.len c.in-Err.i c.args.slot c.requires.0 (omega arith) sought _ _ _ did.answer did.len did.slots)
