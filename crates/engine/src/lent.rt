@@ -3,8 +3,9 @@ use crate::answers::Reported;
 use lists::FrontList;
 use stores::entry::Slot;
 
+// References, each with a lifetime of its own: so whoever lends the lists learns what they hold after the call.
 #[derive(Drop)]
-pub struct Lists<'w, 'r> {
-    pub work: FrontList<'w, Slot>,
-    pub report: FrontList<'r, Reported>,
+pub struct Lists<'a, 'b, 'w, 'r> {
+    pub work: &'a mut FrontList<'w, Slot>,
+    pub report: &'b mut FrontList<'r, Reported>,
 }

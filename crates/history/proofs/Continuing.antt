@@ -89,7 +89,7 @@ module _ (has : ℕ → Bool) where
   none_asked work report s es run = ([], refl, run, stores_follow_history has es s run)
 
   -- one request behind others
-  asked_more :
+  pub asked_more :
       (work report : ℕ) (qs : List Request) (q : Request) (before between after : Stores)
       → Continues has (AsksAll work report qs) before between → Continues has (Asks work report q) between after
       → Continues has (AsksAll work report (qs ++ (q ∷ []))) before after

@@ -101,10 +101,20 @@ WorkLeft (Sync m) ok before after =
 WorkLeft (Inspect m) ok before after = Untouched before after
 WorkLeft (Resolve m c) ok before after = Untouched before after
 
--- both lists are still the ones that were lent
+-- the same of its places alone
+abbrev pub PlacesLeft : Request → Bool → List Slot → List Slot → Type 0
+PlacesLeft (Write k p s) ok before after = after ≡ before
+PlacesLeft (Remove k p) ok before after = after ≡ before
+PlacesLeft (Sync m) ok before after = MatchBool ok (length after ≡ length before) (after ≡ before)
+PlacesLeft (Inspect m) ok before after = after ≡ before
+PlacesLeft (Resolve m c) ok before after = after ≡ before
+
+-- both lists, and the places of each, are still the ones that were lent
 pub record StayLent (before after : Lists) : Type 0 where
-  pub work : after.work.slots.ghost_name ≡ before.work.slots.ghost_name
-  pub report : after.report.slots.ghost_name ≡ before.report.slots.ghost_name
+  pub work : after.work.ghost_name ≡ before.work.ghost_name
+  pub report : after.report.ghost_name ≡ before.report.ghost_name
+  pub work_places : after.work.now.slots.ghost_name ≡ before.work.now.slots.ghost_name
+  pub report_places : after.report.now.slots.ghost_name ≡ before.report.now.slots.ghost_name
 
 -- where a list of requests has come to
 pub record Point : Type 0 where
@@ -115,9 +125,9 @@ pub record Point : Type 0 where
 pub record Performed (work report : ℕ) (q : Request) (before : Point) (r : Result Answer Fault) (after : Point) : Type 0 where
   pub done : Performs work report q before.stores r after.stores
   pub reported :
-      after.lists.report.slots.now ≡ report_left q before.stores (is_ok r) before.lists.report.slots.now
-  pub filled : after.lists.report.len ≡ report_count q before.stores (is_ok r) before.lists.report.len
-  pub worked : WorkLeft q (is_ok r) before.lists.work after.lists.work
+      after.lists.report.now.slots.now ≡ report_left q before.stores (is_ok r) before.lists.report.now.slots.now
+  pub filled : after.lists.report.now.len ≡ report_count q before.stores (is_ok r) before.lists.report.now.len
+  pub worked : WorkLeft q (is_ok r) before.lists.work.now after.lists.work.now
 
 -- what a list of requests does, one after the other
 abbrev pub PerformsAll : (work report : ℕ) → List Request → Point → Point → Type 0

@@ -3,6 +3,7 @@
 
 ghost use Rattle.history.specs.Law.{StoresFollowHistory};
 
+pub mod lending;
 pub mod panels;
 pub mod perform;
 pub mod request;

@@ -52,14 +52,14 @@ pub trait Panels {
         ensures only { OnlyAt panel.number (stores self.old) (stores self.new) };
 
     // Refills the report from its front; what the work list holds after it is open, unless the sync is refused.
-    fn sync(&mut self, meeting: Meeting, lists: &mut Lists<'_, '_>) -> Result<Tally, Fault>
+    fn sync(&mut self, meeting: Meeting, lists: &mut Lists<'_, '_, '_, '_>) -> Result<Tally, Fault>
         requires { (has meeting.source.number && has meeting.destination.number) ≡ true }
-        ensures done { Syncs (stores self.old meeting.source.number) (stores self.old meeting.destination.number) meeting.path (length lists.old.work.slots.now) (length lists.old.report.slots.now) result (stores self.new meeting.destination.number) }
+        ensures done { Syncs (stores self.old meeting.source.number) (stores self.old meeting.destination.number) meeting.path (length lists.old.work.now.slots.now) (length lists.old.report.now.slots.now) result (stores self.new meeting.destination.number) }
         ensures only { OnlyAt meeting.destination.number (stores self.old) (stores self.new) }
-        ensures reported { lists.new.report.slots.now ≡ report_after (stores self.old meeting.source.number) (stores self.old meeting.destination.number) meeting.path result lists.old.report.slots.now }
-        ensures filled { lists.new.report.len ≡ report_filled (stores self.old meeting.source.number) (stores self.old meeting.destination.number) meeting.path result lists.old.report.len }
-        ensures worked { WorkAfter result lists.old.work.slots.now lists.new.work.slots.now }
-        ensures idle { OnErr result (Untouched lists.old.work lists.new.work) }
+        ensures reported { lists.new.report.now.slots.now ≡ report_after (stores self.old meeting.source.number) (stores self.old meeting.destination.number) meeting.path result lists.old.report.now.slots.now }
+        ensures filled { lists.new.report.now.len ≡ report_filled (stores self.old meeting.source.number) (stores self.old meeting.destination.number) meeting.path result lists.old.report.now.len }
+        ensures worked { WorkAfter result lists.old.work.now.slots.now lists.new.work.now.slots.now }
+        ensures idle { OnErr result (Untouched lists.old.work.now lists.new.work.now) }
         ensures lent { StayLent lists.old lists.new };
 
     // Opens the conflict at a leaf and leaves it.

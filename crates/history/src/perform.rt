@@ -13,15 +13,15 @@ use paths::fault::Fault;
 pub fn perform<P: Panels>(
     panels: &mut P,
     request: Request,
-    lists: &mut Lists<'_, '_>,
+    lists: &mut Lists<'_, '_, '_, '_>,
 ) -> Result<Answer, Fault>
     requires { names P.Panels.has request ≡ true }
-    ensures done { Performs (length lists.old.work.slots.now) (length lists.old.report.slots.now) request (P.Panels.stores panels.old) result (P.Panels.stores panels.new) }
-    ensures law { Continues P.Panels.has (Asks (length lists.old.work.slots.now) (length lists.old.report.slots.now) request) (P.Panels.stores panels.old) (P.Panels.stores panels.new) }
-    ensures reported { lists.new.report.slots.now ≡ report_left request (P.Panels.stores panels.old) (is_ok result) lists.old.report.slots.now }
-    ensures filled { lists.new.report.len ≡ report_count request (P.Panels.stores panels.old) (is_ok result) lists.old.report.len }
-    ensures work { length lists.new.work.slots.now ≡ length lists.old.work.slots.now }
-    ensures worked { WorkLeft request (is_ok result) lists.old.work lists.new.work }
+    ensures done { Performs (length lists.old.work.now.slots.now) (length lists.old.report.now.slots.now) request (P.Panels.stores panels.old) result (P.Panels.stores panels.new) }
+    ensures law { Continues P.Panels.has (Asks (length lists.old.work.now.slots.now) (length lists.old.report.now.slots.now) request) (P.Panels.stores panels.old) (P.Panels.stores panels.new) }
+    ensures reported { lists.new.report.now.slots.now ≡ report_left request (P.Panels.stores panels.old) (is_ok result) lists.old.report.now.slots.now }
+    ensures filled { lists.new.report.now.len ≡ report_count request (P.Panels.stores panels.old) (is_ok result) lists.old.report.now.len }
+    ensures work { length lists.new.work.now.slots.now ≡ length lists.old.work.now.slots.now }
+    ensures worked { WorkLeft request (is_ok result) lists.old.work.now lists.new.work.now }
     ensures lent { StayLent lists.old lists.new }
 {
     match request {
@@ -53,11 +53,11 @@ fn pass_by(answer: Result<Answer, Fault>) {
 }
 
 // A list of requests, one after the other; those that are refused change nothing.
-pub fn run<P: Panels>(panels: &mut P, requests: &[Request], lists: &mut Lists<'_, '_>)
+pub fn run<P: Panels>(panels: &mut P, requests: &[Request], lists: &mut Lists<'_, '_, '_, '_>)
     requires { all_name P.Panels.has requests.now ≡ true }
-    ensures law { Continues P.Panels.has (AsksAll (length lists.old.work.slots.now) (length lists.old.report.slots.now) requests.now) (P.Panels.stores panels.old) (P.Panels.stores panels.new) }
-    ensures done { PerformsAll (length lists.old.work.slots.now) (length lists.old.report.slots.now) requests.now (record { stores = P.Panels.stores panels.old; lists = lists.old }) (record { stores = P.Panels.stores panels.new; lists = lists.new }) }
-    ensures work { length lists.new.work.slots.now ≡ length lists.old.work.slots.now }
+    ensures law { Continues P.Panels.has (AsksAll (length lists.old.work.now.slots.now) (length lists.old.report.now.slots.now) requests.now) (P.Panels.stores panels.old) (P.Panels.stores panels.new) }
+    ensures done { PerformsAll (length lists.old.work.now.slots.now) (length lists.old.report.now.slots.now) requests.now (record { stores = P.Panels.stores panels.old; lists = lists.old }) (record { stores = P.Panels.stores panels.new; lists = lists.new }) }
+    ensures work { length lists.new.work.now.slots.now ≡ length lists.old.work.now.slots.now }
     ensures lent { StayLent lists.old lists.new }
 {
     for request in requests {

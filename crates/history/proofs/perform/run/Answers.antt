@@ -6,12 +6,12 @@ pub loop-request-init : goal.loop-request-init
 loop-request-init g c =
     record {
       law =
-          none_asked g.P.Panels.has (length c.args.lists.now.work.slots.now) (length c.args.lists.now.report.slots.now)
+          none_asked g.P.Panels.has (length c.args.lists.now.work.now.slots.now) (length c.args.lists.now.report.now.slots.now)
           (g.P.Panels.stores c.args.panels.now);
       done = refl;
       work = refl;
       report = refl;
-      lent = record { work = refl; report = refl };
+      lent = record { work = refl; report = refl; work_places = refl; report_places = refl };
     }
 
 pub perform-requires : goal.perform-requires
@@ -35,6 +35,12 @@ loop-request-preserved g c =
       work = here.work ∙ kept.work;
       report =
           ap length here.reported
-          ∙ report-room _ c.request-item.result _ _ _ c.loop-request.lists.report.slots.now here.done ∙ kept.report;
-      lent = record { work = here.lent.work ∙ kept.lent.work; report = here.lent.report ∙ kept.lent.report };
+          ∙ report-room _ c.request-item.result _ _ _ c.loop-request.lists.report.now.slots.now here.done ∙ kept.report;
+      lent =
+          record {
+            work = here.lent.work ∙ kept.lent.work;
+            report = here.lent.report ∙ kept.lent.report;
+            work_places = here.lent.work_places ∙ kept.lent.work_places;
+            report_places = here.lent.report_places ∙ kept.lent.report_places;
+          };
     }

@@ -8,13 +8,13 @@ invariant-loop-request g l =
     record {
       law :
           Continues g.P.Panels.has
-          (AsksAll (length l.initial.lists.work.slots.now) (length l.initial.lists.report.slots.now)
+          (AsksAll (length l.initial.lists.work.now.slots.now) (length l.initial.lists.report.now.slots.now)
           (take l.request-index l.requests)) (g.P.Panels.stores l.initial.panels) (g.P.Panels.stores l.panels);
       done :
-          PerformsAll (length l.initial.lists.work.slots.now) (length l.initial.lists.report.slots.now)
+          PerformsAll (length l.initial.lists.work.now.slots.now) (length l.initial.lists.report.now.slots.now)
           (take l.request-index l.requests) (record { stores = g.P.Panels.stores l.initial.panels; lists = l.initial.lists })
           (record { stores = g.P.Panels.stores l.panels; lists = l.lists });
-      work : length l.lists.work.slots.now ≡ length l.initial.lists.work.slots.now;
-      report : length l.lists.report.slots.now ≡ length l.initial.lists.report.slots.now;
+      work : length l.lists.work.now.slots.now ≡ length l.initial.lists.work.now.slots.now;
+      report : length l.lists.report.now.slots.now ≡ length l.initial.lists.report.now.slots.now;
       lent : StayLent l.initial.lists l.lists;
     }
