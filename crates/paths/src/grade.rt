@@ -13,7 +13,7 @@ pub struct Knob {
 
 // A value for each knob.
 #[derive(Clone, Copy, PartialEq, Eq)]
-pub struct Knobs<K> {
+pub struct Knobs<K = Knob> {
     pub lift: K,
     pub gamma: K,
     pub gain: K,

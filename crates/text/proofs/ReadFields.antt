@@ -1,9 +1,14 @@
 -- The fields of a text, read one after the other into an array of blanks.
-use Rattle.std.proofs.Common.{◌≡◌, ℕ, suc, ◌+◌, ◌-◌, ◌<◌, ◌≤◌, List, [], ◌∷◌, ◌++◌, length, take, drop, drop-cons, set, replicate, get_or, Some, None, Option, sym, refl, ap, ◌∙◌, subst, add-one, arith, append_assoc, append-nil, length-set}
+use Rattle.std.proofs.Common.{◌≡◌, ℕ, zero, suc, ◌+◌, ◌-◌, ◌<◌, ◌≤◌, List, [], ◌∷◌, ◌++◌, length, take, drop, drop-cons, set, replicate, get_or, Some, None, Option, sym, refl, ap, ◌∙◌, subst, add-one, arith, append_assoc, append-nil, length-set}
 use Rattle.std.proofs.lemmas.List.{length-replicate, take_more_set, take_all, drop-set-lt}
 use Rattle.std.proofs.lemmas.Iterator.Adapters.{option_map_id}
 use Rattle.std.specs.Option.{option_map}
 use Rattle.text.specs.Fields.{before_first, after_first, FieldsRead}
+
+pub set_twice : {X : Type 0} (xs : List X) (i : ℕ) (x y : X) → set (set xs i x) i y ≡ set xs i y
+set_twice [] i x y = refl
+set_twice (z ∷ xs) zero x y = refl
+set_twice (z ∷ xs) (suc i) x y = ap (λ zs. z ∷ zs) (set_twice xs i x y)
 
 module _ {X : Type 0} (R : List ℕ → Option X → Type 0) (mark : ℕ) (blank : X) (many : ℕ) where
   -- the first i fields are read, the others are blank, and what is made of what is left of the text tells what of the whole
@@ -81,21 +86,26 @@ module _ {X : Type 0} {R : List ℕ → Option X → Type 0} {mark : ℕ} {blank
       (Some x, one, (all, subst (λ o. FieldsRead R mark blank n o all) left read, refl))))
       put_here
 
+  -- what stands at a place that is not read yet
+  pub unread :
+      {text : List ℕ} {i : ℕ} {fields : List X} {rest : Option (List ℕ)}
+      → Reading R mark blank many text i fields rest → i < many → (x : X) → get_or fields i x ≡ blank
+  unread {i = i} {fields = fields} r lt x = (first_blank i fields lt r.size r.blanks x).0
+
   -- the text has ended, and a field stays blank
   pub none_more :
-      {text : List ℕ} {i : ℕ} {fields fields' : List X} {rest rest' : Option (List ℕ)} (x : X)
+      {text : List ℕ} {i : ℕ} {fields fields' : List X} {rest rest' : Option (List ℕ)} (y : X)
       → Reading R mark blank many text i fields rest → i < many → rest ≡ None
-      → fields' ≡ set fields i (get_or fields i x) → rest' ≡ rest → Reading R mark blank many text (i + 1) fields' rest'
-  none_more {i = i} {fields = fields} {rest = rest} {rest' = rest'} x r lt is put_here left =
+      → fields' ≡ set fields i y → y ≡ blank → rest' ≡ rest → Reading R mark blank many text (i + 1) fields' rest'
+  none_more {i = i} {fields = fields} {rest = rest} {rest' = rest'} y r lt is put_here none left =
       let n = many - (i + 1) in
       let here : many - i ≡ suc n = omega arith in
-      let y = get_or fields i x in
       more rest' y r lt
       (λ all read.
       let others : all ≡ Some (replicate n blank) = subst (λ o. FieldsRead R mark blank n o all) (left ∙ is) read in
       subst (λ o. FieldsRead R mark blank (many - i) o (option_map (λ xs. y ∷ xs) all)) (sym is)
       (ap (option_map (λ xs. y ∷ xs)) others
-      ∙ ap (λ z. Some (z ∷ replicate n blank)) (first_blank i fields lt r.size r.blanks x).0
+      ∙ ap (λ z. Some (z ∷ replicate n blank)) none
       ∙ ap (λ k. Some (replicate k blank)) (sym here)))
       put_here
 
