@@ -73,6 +73,9 @@ module _ (xs : List Slot) (n q i : ℕ) (h : rises (take n xs) ≡ true) (le : n
         ∙ sym (dropped_entered (take n xs) q h entered))
         (omega (arith, within))
 
+    pub removed : (m ≡ n - 1) × (take (n - 1) ys ≡ drop_slots (take n xs) q) × (drop (n - 1) ys ≡ dropped (take n xs) q ++ drop n xs)
+    removed = (remove-fewer, remove-held, remove-behind)
+
 -- it does not
 module _ (xs : List Slot) (n q i : ℕ) (sought : Sought (take n xs) q (Err i)) where
   pub left-held : take n xs ≡ drop_slots (take n xs) q
