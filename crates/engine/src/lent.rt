@@ -3,7 +3,7 @@ use crate::answers::Reported;
 use lists::FrontList;
 use stores::entry::Slot;
 
-// References, each with a lifetime of its own: so whoever lends the lists learns what they hold after the call.
+// References, each with a lifetime of its own: so what a call promises of the lists reaches whoever lent them.
 #[derive(Drop)]
 pub struct Lists<'a, 'b, 'w, 'r> {
     pub work: &'a mut FrontList<'w, Slot>,

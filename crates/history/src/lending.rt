@@ -1,4 +1,4 @@
-// Requests for callers that keep the two lists apart, or only their places: they learn what is in them after the call.
+// Requests for callers that keep the two lists apart, or only their places: what is promised of the lists reaches them.
 ghost use Rattle.std.specs.Prelude.{◌≡◌, true, length, is_ok};
 ghost use Rattle.history.specs.Requests.{names, Performs, report_left, report_count, WorkLeft, PlacesLeft, Asks, Continues};
 

@@ -4,7 +4,7 @@ ghost use Rattle.stores.specs.TableSound.{TableSound};
 use crate::entry::Slot;
 use paths::stamp::Panel;
 
-// It holds the slice itself, and no list with the slice in it: only so does the caller who lent it learn what it holds after.
+// It holds the slice itself, and no list with the slice in it: then whoever lent it would learn its length alone.
 #[derive(Drop)]
 pub struct Table<'a> {
     pub number: Panel,
