@@ -1,14 +1,9 @@
 -- The fields of a text, read one after the other into an array of blanks.
-use Rattle.std.proofs.Common.{◌≡◌, ℕ, zero, suc, ◌+◌, ◌-◌, ◌<◌, ◌≤◌, List, [], ◌∷◌, ◌++◌, length, take, drop, drop-cons, set, replicate, get_or, Some, None, Option, sym, refl, ap, ◌∙◌, subst, add-one, arith, append_assoc, append-nil, length-set}
+use Rattle.std.proofs.Common.{◌≡◌, ℕ, suc, ◌+◌, ◌-◌, ◌<◌, ◌≤◌, List, [], ◌∷◌, ◌++◌, length, take, drop, drop-cons, set, replicate, get_or, Some, None, Option, sym, refl, ap, ◌∙◌, subst, add-one, arith, append_assoc, append-nil, length-set}
 use Rattle.std.proofs.lemmas.List.{length-replicate, take_more_set, take_all, drop-set-lt}
 use Rattle.std.proofs.lemmas.Iterator.Adapters.{option_map_id}
 use Rattle.std.specs.Option.{option_map}
 use Rattle.text.specs.Fields.{before_first, after_first, FieldsRead}
-
-pub set_twice : {X : Type 0} (xs : List X) (i : ℕ) (x y : X) → set (set xs i x) i y ≡ set xs i y
-set_twice [] i x y = refl
-set_twice (z ∷ xs) zero x y = refl
-set_twice (z ∷ xs) (suc i) x y = ap (λ zs. z ∷ zs) (set_twice xs i x y)
 
 module _ {X : Type 0} (R : List ℕ → Option X → Type 0) (mark : ℕ) (blank : X) (many : ℕ) where
   -- the first i fields are read, the others are blank, and what is made of what is left of the text tells what of the whole

@@ -3,7 +3,7 @@ use Rattle.std.specs.Option.{option_map}
 use Rattle.std.specs.Fn.{FnReturnsAt}
 use Rattle.std.proofs.lemmas.Fn.{says_at}
 use Rattle.text.specs.Fields.{FieldsRead}
-use Rattle.text.proofs.ReadFields.{set_twice, one_more, unread, none_more, all_read, too_many, no_field}
+use Rattle.text.proofs.ReadFields.{one_more, unread, none_more, all_read, too_many, no_field}
 use Rattle.text.proofs.read_fields.Goals as goal
 use Rattle.text.proofs.read_fields.Goals.{in-Some+in_ok-field, in_default}
 
@@ -15,7 +15,7 @@ loop-field-preserved g c =
           (ap (option_map (λ x. x.now)) w.in-Some.is)
           (subst (λ t. FnReturnsAt g.F.Fn c.args.read t (Some w.in_ok-field.field-0)) w.split_first.ensures.before
           (says_at g.F.Fn w.in_ok-field.ensures refl))
-          (search (rules, set_twice)) (ap (option_map (λ x. x.now)) w.rest-is ∙ w.split_first.ensures.after)
+          w.field-items-is (ap (option_map (λ x. x.now)) w.rest-is ∙ w.split_first.ensures.after)
       | in_default w ↦
           none_more _ c.loop-field.invariant c.loop-field-test.true (ap (option_map (λ x. x.now)) w.in_default.is)
           w.field-items-is (search (rules, unread c.loop-field.invariant c.loop-field-test.true))
