@@ -73,8 +73,21 @@ module _ (xs : List Slot) (n q i : ℕ) (h : rises (take n xs) ≡ true) (le : n
         ∙ sym (dropped_entered (take n xs) q h entered))
         (omega (arith, within))
 
-    pub removed : (m ≡ n - 1) × (take (n - 1) ys ≡ drop_slots (take n xs) q) × (drop (n - 1) ys ≡ dropped (take n xs) q ++ drop n xs)
-    removed = (remove-fewer, remove-held, remove-behind)
+  -- the slot at j was taken out of the first k, which are that place and that many
+  pub removed :
+      (ys : List Slot) (m j k : ℕ) (b : Bool) → b ≡ (ltb j k && leb k (length xs)) → m ≡ cond b (k - 1) k
+      → MatchBool b (Removes xs ys (k - 1) j) (ys ≡ xs) → j ≡ i → k ≡ n
+      → (m ≡ n - 1) × (take (n - 1) ys ≡ drop_slots (take n xs) q) × (drop (n - 1) ys ≡ dropped (take n xs) q ++ drop n xs)
+  removed ys m j k b answer len slots here whole =
+      let answer' = answer ∙ ap₂ (λ j k. ltb j k && leb k (length xs)) here whole in
+      let len' = len ∙ ap (λ k. cond b (k - 1) k) whole in
+      let slots' =
+      subst (λ k. MatchBool b (Removes xs ys (k - 1) i) (ys ≡ xs)) whole
+      (subst (λ j. MatchBool b (Removes xs ys (k - 1) j) (ys ≡ xs)) here slots) in (
+        remove-fewer ys m b answer' len' slots',
+        remove-held ys m b answer' len' slots',
+        remove-behind ys m b answer' len' slots',
+      )
 
 -- it does not
 module _ (xs : List Slot) (n q i : ℕ) (sought : Sought (take n xs) q (Err i)) where
@@ -111,3 +124,20 @@ module _ (xs : List Slot) (n i : ℕ) (s : Slot) (h : rises (take n xs) ≡ true
   insert-len =
       ap (λ k. k + 1) (sym (length-take-le n xs (omega arith)))
       ∙ sym (put_count (take n xs) s h ∙ cond-false _ _ _ (ap is_some sought.2))
+
+-- the same where the slot went before the one at j of the first k, which are that place and that many
+pub inserted_there :
+    (xs : List Slot) (n i : ℕ) (s : Slot) → rises (take n xs) ≡ true → n < length xs → Sought (take n xs) (key s) (Err i)
+    → (ys : List Slot) (m j k : ℕ) (b : Bool) → b ≡ (leb j k && ltb k (length xs)) → m ≡ cond b (k + 1) k
+    → MatchBool b (Inserts xs ys k j s) (ys ≡ xs) → j ≡ i → k ≡ n
+    → (m ≡ n + 1) × (take (n + 1) ys ≡ put (take n xs) s) × (n + 1 ≡ length (put (take n xs) s))
+inserted_there xs n i s h lt sought ys m j k b answer len slots here whole =
+    let answer' = answer ∙ ap₂ (λ j k. leb j k && ltb k (length xs)) here whole in
+    let len' = len ∙ ap (λ k. cond b (k + 1) k) whole in
+    let slots' =
+    subst (λ k. MatchBool b (Inserts xs ys k i s) (ys ≡ xs)) whole
+    (subst (λ j. MatchBool b (Inserts xs ys k j s) (ys ≡ xs)) here slots) in (
+      insert-more xs n i s h lt sought ys m b answer' len' slots',
+      insert-held xs n i s h lt sought ys m b answer' len' slots',
+      insert-len xs n i s h lt sought ys m b answer' len' slots',
+    )

@@ -9,7 +9,8 @@ returns-in-Ok-clause-held c =
     let sought = rw c.filled.ensures at c.in-Ok.ensures.sought in
     let did = c.remove.ensures in
     let (fewer, held, _) =
-    removed list.slots.now list.len c.args.path.number c.in-Ok.i c.requires.0 c.requires.1 sought _ _ _ did.answer did.len did.slots in
+    removed list.slots.now list.len c.args.path.number c.in-Ok.i c.requires.0 c.requires.1 sought _ _ _ _ _ did.answer did.len did.slots
+    (omega arith) (omega arith) in
     subst (λ k. take k c.remove.new.self.slots.now ≡ drop_slots (take list.len list.slots.now) c.args.path.number) (omega (arith, fewer)) held
 
 pub returns-in-Ok-clause-behind : goal.returns-in-Ok-clause-behind
@@ -18,7 +19,8 @@ returns-in-Ok-clause-behind c =
     let sought = rw c.filled.ensures at c.in-Ok.ensures.sought in
     let did = c.remove.ensures in
     let (fewer, _, behind) =
-    removed list.slots.now list.len c.args.path.number c.in-Ok.i c.requires.0 c.requires.1 sought _ _ _ did.answer did.len did.slots in
+    removed list.slots.now list.len c.args.path.number c.in-Ok.i c.requires.0 c.requires.1 sought _ _ _ _ _ did.answer did.len did.slots
+    (omega arith) (omega arith) in
     subst (λ k. drop k c.remove.new.self.slots.now ≡ dropped (take list.len list.slots.now) c.args.path.number ++ drop list.len list.slots.now)
     (omega (arith, fewer)) behind
 
