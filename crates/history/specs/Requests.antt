@@ -92,22 +92,23 @@ pub record Untouched (before after : FrontList Slot) : Type 0 where
   pub places : after.slots.now ≡ before.slots.now
   pub filled : after.len ≡ before.len
 
--- the work list after a request that was accepted or not: what it holds is open after a sync that is done
+-- what a request may do to what it works in: a sync that is done leaves it open but for its room, all else leaves it as it was
+abbrev pub LeftBy : {X : Type 0} → (Roomy Kept : X → X → Type 0) → Request → Bool → X → X → Type 0
+LeftBy Roomy Kept (Write k p s) ok before after = Kept before after
+LeftBy Roomy Kept (Remove k p) ok before after = Kept before after
+LeftBy Roomy Kept (Sync m) ok before after = MatchBool ok (Roomy before after) (Kept before after)
+LeftBy Roomy Kept (Inspect m) ok before after = Kept before after
+LeftBy Roomy Kept (Resolve m c) ok before after = Kept before after
+
+-- the work list after a request that was accepted or not
 abbrev pub WorkLeft : Request → Bool → FrontList Slot → FrontList Slot → Type 0
-WorkLeft (Write k p s) ok before after = Untouched before after
-WorkLeft (Remove k p) ok before after = Untouched before after
-WorkLeft (Sync m) ok before after =
-    MatchBool ok (length after.slots.now ≡ length before.slots.now) (Untouched before after)
-WorkLeft (Inspect m) ok before after = Untouched before after
-WorkLeft (Resolve m c) ok before after = Untouched before after
+WorkLeft q ok before after =
+    LeftBy (λ (x y : FrontList Slot). length y.slots.now ≡ length x.slots.now) Untouched q ok before after
 
 -- the same of its places alone
 abbrev pub PlacesLeft : Request → Bool → List Slot → List Slot → Type 0
-PlacesLeft (Write k p s) ok before after = after ≡ before
-PlacesLeft (Remove k p) ok before after = after ≡ before
-PlacesLeft (Sync m) ok before after = MatchBool ok (length after ≡ length before) (after ≡ before)
-PlacesLeft (Inspect m) ok before after = after ≡ before
-PlacesLeft (Resolve m c) ok before after = after ≡ before
+PlacesLeft q ok before after =
+    LeftBy (λ (x y : List Slot). length y ≡ length x) (λ (x y : List Slot). y ≡ x) q ok before after
 
 -- both lists, and the places of each, are still the ones that were lent
 pub record StayLent (before after : Lists) : Type 0 where

@@ -32,7 +32,8 @@ pub fn perform_with<P: Panels>(
     perform(panels, request, &mut lists)
 }
 
-// One request, by a caller that holds only the places of the lists, which are empty before it.
+// One request, by a caller that holds only the places of the lists, which are empty before it. Of the report it learns what the
+// places hold, and not how many are filled.
 pub fn perform_over<P: Panels>(
     panels: &mut P,
     request: Request,
