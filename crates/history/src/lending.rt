@@ -6,7 +6,7 @@ use crate::panels::Panels;
 use crate::perform::perform;
 use crate::request::{Answer, Request};
 use engine::answers::Reported;
-use engine::lent::Lists;
+use engine::lent::{Lists, ReportList, WorkList};
 use lists::FrontList;
 use paths::fault::Fault;
 use stores::entry::Slot;
@@ -15,8 +15,8 @@ use stores::entry::Slot;
 pub fn perform_with<P: Panels>(
     panels: &mut P,
     request: Request,
-    work: &mut FrontList<'_, Slot>,
-    report: &mut FrontList<'_, Reported>,
+    work: &mut WorkList<'_>,
+    report: &mut ReportList<'_>,
 ) -> Result<Answer, Fault>
     requires { names P.Panels.has request ≡ true }
     ensures done { Performs (length work.old.slots.now) (length report.old.slots.now) request (P.Panels.stores panels.old) result (P.Panels.stores panels.new) }

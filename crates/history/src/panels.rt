@@ -5,11 +5,11 @@ ghost use Rattle.engine.specs.Conflicts.{Opens};
 ghost use Rattle.engine.specs.Syncs.{Syncs, report_after, report_filled, WorkAfter};
 ghost use Rattle.stores.specs.Meaning.{Lawful};
 ghost use Rattle.stores.specs.Slots.{lookup, next_after};
-ghost use Rattle.history.specs.Requests.{Resolves, Untouched, StayLent};
+ghost use Rattle.history.specs.Requests.{Resolves, Untouched};
 ghost use Rattle.history.specs.Runs.{Stores, OnlyAt};
 
 use engine::answers::{Choice, Conflict, Meeting, Removal};
-use engine::lent::Lists;
+use engine::lent::{ReportList, WorkList};
 use engine::tally::Tally;
 use paths::fault::Fault;
 use paths::grade::SettingParts;
@@ -51,16 +51,23 @@ pub trait Panels {
         ensures done { Removes (stores self.old panel.number) path result (stores self.new panel.number) }
         ensures only { OnlyAt panel.number (stores self.old) (stores self.new) };
 
-    // Refills the report from its front; what the work list holds after it is open, unless the sync is refused.
-    fn sync(&mut self, meeting: Meeting, lists: &mut Lists<'_, '_, '_, '_>) -> Result<Tally, Fault>
+    // Refills the report from its front; what the work list holds after it is open, unless the sync is refused. The lists come apart:
+    // of a struct that holds references to both, a sync would have to promise besides that these are still the same.
+    fn sync(
+        &mut self,
+        meeting: Meeting,
+        work: &mut WorkList<'_>,
+        report: &mut ReportList<'_>,
+    ) -> Result<Tally, Fault>
         requires { (has meeting.source.number && has meeting.destination.number) ≡ true }
-        ensures done { Syncs (stores self.old meeting.source.number) (stores self.old meeting.destination.number) meeting.path (length lists.old.work.now.slots.now) (length lists.old.report.now.slots.now) result (stores self.new meeting.destination.number) }
+        ensures done { Syncs (stores self.old meeting.source.number) (stores self.old meeting.destination.number) meeting.path (length work.old.slots.now) (length report.old.slots.now) result (stores self.new meeting.destination.number) }
         ensures only { OnlyAt meeting.destination.number (stores self.old) (stores self.new) }
-        ensures reported { lists.new.report.now.slots.now ≡ report_after (stores self.old meeting.source.number) (stores self.old meeting.destination.number) meeting.path result lists.old.report.now.slots.now }
-        ensures filled { lists.new.report.now.len ≡ report_filled (stores self.old meeting.source.number) (stores self.old meeting.destination.number) meeting.path result lists.old.report.now.len }
-        ensures worked { WorkAfter result lists.old.work.now.slots.now lists.new.work.now.slots.now }
-        ensures idle { OnErr result (Untouched lists.old.work.now lists.new.work.now) }
-        ensures lent { StayLent lists.old lists.new };
+        ensures reported { report.new.slots.now ≡ report_after (stores self.old meeting.source.number) (stores self.old meeting.destination.number) meeting.path result report.old.slots.now }
+        ensures filled { report.new.len ≡ report_filled (stores self.old meeting.source.number) (stores self.old meeting.destination.number) meeting.path result report.old.len }
+        ensures worked { WorkAfter result work.old.slots.now work.new.slots.now }
+        ensures idle { OnErr result (Untouched work.old work.new) }
+        ensures work_lent { work.new.slots.ghost_name ≡ work.old.slots.ghost_name }
+        ensures report_lent { report.new.slots.ghost_name ≡ report.old.slots.ghost_name };
 
     // Opens the conflict at a leaf and leaves it.
     fn inspect(&self, meeting: Meeting) -> Result<Conflict, Fault>

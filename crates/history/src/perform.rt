@@ -29,7 +29,9 @@ pub fn perform<P: Panels>(
             panels.write(panel, path, setting).map(Answer::Clock)
         }
         Request::Remove(panel, path) => panels.remove(panel, path).map(Answer::Removed),
-        Request::Sync(meeting) => panels.sync(meeting, lists).map(Answer::Synced),
+        Request::Sync(meeting) => panels
+            .sync(meeting, lists.work, lists.report)
+            .map(Answer::Synced),
         Request::Inspect(meeting) => panels.inspect(meeting).map(Answer::Found),
         Request::Resolve(meeting, choice) => panels.resolve(meeting, choice).map(Answer::Clock),
     }
