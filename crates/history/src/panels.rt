@@ -51,8 +51,8 @@ pub trait Panels {
         ensures done { Removes (stores self.old panel.number) path result (stores self.new panel.number) }
         ensures only { OnlyAt panel.number (stores self.old) (stores self.new) };
 
-    // Refills the report from its front; what the work list holds after it is open, unless the sync is refused. The lists come apart:
-    // of a struct that holds references to both, a sync would have to promise besides that these are still the same.
+    // Refills the report from its front; what the work list holds after it is open, unless the sync is refused. The lists come
+    // apart: of a struct that holds references to both, a sync would have to promise besides that these are still the same.
     fn sync(
         &mut self,
         meeting: Meeting,

@@ -1,5 +1,5 @@
-// A panel that stands alone and has room for its root only, so that each request is refused. It shows that the trait can be met,
-// and what a refused request leaves to whoever lent the lists.
+// A panel that stands alone and has room for its root only, so that each request is refused. It shows that the trait can be
+// met, and what a refused request leaves to whoever lent the lists.
 ghost use Rattle.std.specs.Prelude.{◌≡◌, ◌==◌, Some};
 ghost use Rattle.engine.specs.Conflicts.{open_refusal};
 ghost use Rattle.std.proofs.Math.Nat.{le_refl, le-add_right};
